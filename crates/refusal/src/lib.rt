@@ -72,12 +72,15 @@ impl Refusal {
     {
         let n = self.why.number() as usize;
         let at = self.place;
-        [
-            b'r', b'e', b'f', b'u', b's', b'e', b'd', b' ',
-            digit(n / 10), digit(n), b' ', b'a', b't', b' ',
-            digit(at / 10000), digit(at / 1000), digit(at / 100), digit(at / 10), digit(at),
-            b'\n',
-        ]
+        let mut line = *b"refused 00 at 00000\n";
+        line[8] = digit(n / 10);
+        line[9] = digit(n);
+        line[14] = digit(at / 10000);
+        line[15] = digit(at / 1000);
+        line[16] = digit(at / 100);
+        line[17] = digit(at / 10);
+        line[18] = digit(at);
+        line
     }
 }
 
