@@ -1,0 +1,37 @@
+// Loads a panel file into points: judges the whole file, then places its vertices.
+mod judge;
+mod piece;
+mod place;
+
+use kinds::PointKind;
+use pack::Packing;
+use predict::Predictor;
+use refusal::Refusal;
+ghost use mathlib.Core.Path.{_≡_};
+ghost use mathlib.Core.List.{List};
+ghost use Prim.Native.Nat.{ℕ};
+ghost use Rattle.std.specs.declared.result.Result.{Result};
+ghost use Rattle.panel.specs.Placed.{loadOf};
+
+// Loads a file into the front of the points and answers how many there are; a file that is refused changes no point.
+pub fn load<K: PointKind + Copy, P: Predictor, Q: Packing>(
+    file: &[u8],
+    points: &mut [K],
+) -> Result<usize, Refusal>
+    ensures { λ r. ⌜ _≡_ {A = Result ℕ Refusal × List K} (r, now (points .exit)) (loadOf (K·PointKind .kind) (P·Predictor .means) (Q·Packing .means .reading) (now (file .entry)) (now (points .entry))) ⌝ }
+{
+    let axes = K::axis_count();
+    let n = match judge::head(file, axes, P::tag(), Q::tag(), points.len()) {
+        Ok(n) => n,
+        Err(e) => return Err(e),
+    };
+    let at = match judge::axes::<P, Q>(file, axes, n) {
+        Ok(at) => at,
+        Err(e) => return Err(e),
+    };
+    if let Err(e) = judge::end_at(&file[at..], at) {
+        return Err(e);
+    }
+    place::place::<K, P, Q>(file, n, points);
+    Ok(n)
+}
