@@ -1,10 +1,11 @@
 -- When a split panel is cut, and what that leaves.
 use mathlib.Core.Path.{_≡_, sym, ap, _∙_}
+use mathlib.Core.Bool.{true, _&&_}
 use mathlib.Core.List.{List}
 use Prim.Native.Nat.{ℕ, _+_, _-_, _*_, _≤_, _<_}
 use native.Mathlib.Omega.{arith}
+use lib.Dec.{eqb}
 use lib.ListN.{length, getD, take}
-use Rattle.std.proofs.shelf.Lists.{length-take-le}
 use Rattle.std.proofs.shelf.Ways.{tells}
 use Rattle.std.specs.declared.option.Option.the-variants.{Some, None}
 use Rattle.refusal.specs.declared.Why.the-variants.{NoSpace}
@@ -14,17 +15,6 @@ use Rattle.law.specs.declared.Stage.{Stage}
 use Rattle.law.specs.declared.Stage.the-variants.{Split}
 use Rattle.law.specs.Program.{chainBytes, through, overwritten}
 use Rattle.law.specs.Calls.{State, Outcome, outcome, refused, one, cut, kept, drawn, why-cut, cut-by, cut-at, step}
-use Rattle.bench.proofs.Marks.{ones-take}
-
-whole : (n : ℕ) → n - 0 ≡ n
-whole n = omega arith
-
--- the bytes of the moves, counted over the panel's part of the marks
-pub moves-counted : (n count size axes : ℕ) (ms : List ℕ) → n ≤ length ms → count ≡ ones (length (take (n - 0) ms)) (take (n - 0) ms) → size ≡ 1 + 4 * axes → count * size ≡ ones n ms * (1 + 4 * axes)
-moves-counted n count size axes ms h counted sized =
-    let long : length (take n ms) ≡ n = length-take-le n ms h in
-    ap (λ m. m * size) (counted ∙ ap (λ m. ones (length (take m ms)) (take m ms)) (whole n) ∙ ap (λ m. ones m (take n ms)) long ∙ ones-take n n ms (omega arith))
-    ∙ ap (λ m. ones n ms * m) sized
 
 module _ {P : Type 0} (k : KindMeaning P) (s : State P) where
   -- the chain's bytes, and the finish
@@ -36,13 +26,15 @@ module _ {P : Type 0} (k : KindMeaning P) (s : State P) where
     pub split : s .stage ≡ Split
     pub points : s .count ≤ length (s .points)
     pub marks : s .count ≤ length (s .marks)
-    pub first : getD (s .marks) 0 0 ≡ 1
-    pub last : getD (s .marks) (s .count - 1) 0 ≡ 1
+    pub ends : (eqb (getD (s .marks) 0 0) 1 && eqb (getD (s .marks) (s .count - 1) 0) 1) ≡ true
 
   pub no-space : Fit → length (s .program) < Needed → step k s cut ≡ refused s NoSpace
   no-space fit full =
-      let why : why-cut k s ≡ Some NoSpace = grind (arith, tells, fit .points, fit .marks, fit .first, fit .last) in
+      let why : why-cut k s ≡ Some NoSpace = grind (arith, tells, fit .points, fit .marks, fit .ends) in
       ap (λ st. cut-at k st s) (fit .split) ∙ ap (λ w. cut-by k w s) why
+
+  pub first-kept : Fit → getD (s .marks) 0 0 ≡ 1
+  first-kept fit = grind (arith, tells, fit .ends)
 
   -- the bench after a cut, with such a program
   abbrev After : Stage → ℕ → List ℕ → Outcome P
@@ -50,7 +42,7 @@ module _ {P : Type 0} (k : KindMeaning P) (s : State P) where
 
   pub is-cut : Fit → Needed ≤ length (s .program) → (size : ℕ) (program : List ℕ) → size ≡ s .size + length (drawn k s) → program ≡ overwritten (s .program) (s .size) (drawn k s) → step k s cut ≡ After (s .stage) size program
   is-cut fit room size program long wrote =
-      let why : why-cut k s ≡ None = grind (arith, tells, fit .points, fit .marks, fit .first, fit .last) in
+      let why : why-cut k s ≡ None = grind (arith, tells, fit .points, fit .marks, fit .ends) in
       ap (λ st. cut-at k st s) (fit .split) ∙ ap (λ w. cut-by k w s) why
       ∙ ap (λ st. After st (s .size + length (drawn k s)) (overwritten (s .program) (s .size) (drawn k s))) (sym (fit .split))
       ∙ ap (λ n. After (s .stage) n (overwritten (s .program) (s .size) (drawn k s))) (sym long) ∙ ap (After (s .stage) size) (sym wrote)
@@ -58,4 +50,4 @@ module _ {P : Type 0} (k : KindMeaning P) (s : State P) where
   -- a cut's chain is that of the panel's parts of the lists
   pub drawn-of-parts : chainBytes (through k (kept (take (s .count - 0) (s .marks)) (take (s .count - 0) (s .points)))) ≡ drawn k s
   unfolding drawn
-  drawn-of-parts = ap (λ n. chainBytes (through k (kept (take n (s .marks)) (take n (s .points))))) (whole (s .count))
+  drawn-of-parts = ap (λ n. chainBytes (through k (kept (take n (s .marks)) (take n (s .points))))) (let whole : s .count - 0 ≡ s .count = omega arith in whole)

@@ -5,7 +5,6 @@ use mathlib.Core.List.{List}
 use Prim.Native.Nat.{ℕ}
 use native.Mathlib.Omega.{arith}
 use lib.Dec.{ltb}
-use Rattle.std.specs.Options.{valueOr}
 use Rattle.std.specs.declared.option.Option.{Option}
 use Rattle.std.specs.declared.option.Option.the-variants.{Some, None}
 use Rattle.std.specs.declared.result.Result.{Result}
@@ -19,11 +18,6 @@ use Rattle.law.specs.declared.Stage.the-variants.{Empty, Loaded, Split, Closed}
 use Rattle.law.specs.Calls.{State, Outcome, outcome, no, two, tolerance, split-by, split-at}
 use Rattle.bench.specs.Stages.{stands}
 use Rattle.bench.specs.States.{plain}
-
--- the tolerance that is given, or the usual one
-pub usual : (t : Option ℕ) → valueOr t 8 ≡ tolerance t
-usual None = refl
-usual (Some t) = refl
 
 abbrev Both : Type 0
 Both = Result (ℕ × ℕ) Why × List ℕ

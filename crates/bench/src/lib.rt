@@ -1,16 +1,18 @@
 // The cutting bench: it loads panel files, splits their seams, and writes cut programs through a knife.
 ghost use mathlib.Core.Path.{_≡_};
+ghost use mathlib.Core.List.{[], _∷_};
 ghost use lib.ListN.{take};
 ghost use Rattle.std.specs.Vec.{made};
-ghost use Rattle.law.specs.Calls.{new as untouched, one};
+ghost use Rattle.law.specs.Calls.{new as untouched, load as Load, split as Split, cut as Cut, close as Close};
 ghost use Rattle.law.specs.Law.{MisplacesNone, No-run-misplaces-a-panel};
 ghost use Rattle.bench.specs.States.{counted};
-ghost use Rattle.bench.specs.Panels.{sight, panelCalls, onward};
+ghost use Rattle.bench.specs.Onward.{sight, onward};
 use kinds::PointKind;
 use law::no_run_misplaces;
 use pack::Packing;
 use predict::Predictor;
 use refusal::Refusal;
+
 pub mod bench;
 
 pub use bench::Bench;
@@ -23,8 +25,8 @@ pub fn cut_panel<K: PointKind + Copy, P: Predictor, Q: Packing>(
     marks: &mut [u8],
     program: &mut [u8],
 ) -> Result<usize, Refusal>
-    ensures does { λ r. ⌜ onward (K·PointKind .kind) (untouched (now (points .entry)) (now (marks .entry)) (now (program .entry))) (one 0) (panelCalls (P·Predictor .means) (Q·Packing .means .reading) (now (file .entry)) tolerance) ≡ sight (counted r) (now (points .exit)) (now (marks .exit)) (now (program .exit)) ⌝ }
-    ensures placed { λ r. ⌜ made r (λ n. MisplacesNone (K·PointKind .kind) (panelCalls (P·Predictor .means) (Q·Packing .means .reading) (now (file .entry)) tolerance) (take n (now (program .exit)))) ⌝ }
+    ensures does { λ r. ⌜ onward (K·PointKind .kind) (untouched (now (points .entry)) (now (marks .entry)) (now (program .entry))) (Load (P·Predictor .means) (Q·Packing .means .reading) (now (file .entry))) (Split tolerance ∷ Cut ∷ Close ∷ []) ≡ sight (counted r) (now (points .exit)) (now (marks .exit)) (now (program .exit)) ⌝ }
+    ensures placed { λ r. ⌜ made r (λ n. MisplacesNone (K·PointKind .kind) (Load (P·Predictor .means) (Q·Packing .means .reading) (now (file .entry)) ∷ Split tolerance ∷ Cut ∷ Close ∷ []) (take n (now (program .exit)))) ⌝ }
     ensures never { λ _. ⌜ No-run-misplaces-a-panel (K·PointKind .kind) ⌝ }
 {
     no_run_misplaces::<K>();

@@ -1,8 +1,8 @@
 -- What reading a file comes to at each of its exits. Assumes nothing.
-use mathlib.Core.Path.{_≡_, refl, sym, ap, ap₂, subst, _∙_}
-use mathlib.Core.Bool.{Bool, true, false, cond}
+use mathlib.Core.Path.{_≡_, refl, sym, ap, subst, _∙_}
+use mathlib.Core.Bool.{true}
 use mathlib.Core.List.{List, [], _∷_, _++_}
-use Prim.Native.Nat.{ℕ, zero, suc, _+_, _-_, _<_, _≤_}
+use Prim.Native.Nat.{ℕ, zero, suc, _+_, _-_, _≤_}
 use native.Mathlib.Omega.{arith}
 use lib.Dec.{ltb}
 use lib.IntN.{ℤ}
@@ -23,7 +23,7 @@ use Rattle.range.specs.Scale.{Scale}
 use Rattle.panel.specs.Panel.{Axis, Panel}
 use Rattle.panel.specs.Judging.{andThen, Rest, headAt, rangeAt, lengthAt, endAt, bodyAt, axisAt, axesAt, undone, more, allCodes, judged}
 use Rattle.panel.specs.Placed.{filled, placed}
-use Rattle.load.specs.Steps.{pastOf, from}
+use Rattle.load.specs.Steps.{pastOf}
 use Rattle.load.specs.Filling.{fillBy}
 use Rattle.load.proofs.Axis.{then-is}
 use Rattle.load.proofs.Points.{points-are}

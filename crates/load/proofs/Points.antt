@@ -5,7 +5,7 @@ use mathlib.Core.Logic.{⊎-elim}
 use Prim.Native.Nat.{ℕ, zero, suc, _+_, _-_, _<_, _≤_}
 use native.Mathlib.Omega.{arith}
 use lib.IntN.{ℤ, pos}
-use lib.ListN.{length, getD, take, drop, length-append, length-drop}
+use lib.ListN.{length, getD, drop, length-append, length-drop}
 use Rattle.std.specs.shelf.Lists.{All}
 use Rattle.std.specs.Iters.{counting}
 use Rattle.std.proofs.shelf.Lists.{same-lists, getD-append-left, getD-append-right, getD-drop}
@@ -13,7 +13,7 @@ use Rattle.std.proofs.shelf.Counted.{length-map-counting, getD-map-counting}
 use Rattle.std.proofs.shelf.Tests.{cases-lt}
 use Rattle.kinds.specs.Kind.{KindMeaning}
 use Rattle.range.specs.Scale.{Scale, placeIn}
-use Rattle.panel.specs.Panel.{Axis, Panel}
+use Rattle.panel.specs.Panel.{Axis}
 use Rattle.panel.specs.Placed.{placeAt, vertex, placed}
 use Rattle.load.specs.Filling.{moved, fillOn, fillFrom}
 

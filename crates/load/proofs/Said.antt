@@ -13,7 +13,7 @@ use Rattle.range.specs.Scale.{Scale}
 use Rattle.panel.specs.Words.{word}
 use Rattle.panel.specs.Judging.{headAt, rangeAt, counted, scaledBy}
 use Rattle.load.specs.Pieces.{Told, header, range, headerFrom, rangeFrom}
-use Rattle.load.proofs.Fronts.{Front, front, taken}
+use Rattle.load.proofs.Fronts.{front, taken}
 
 pub headed : (axes predictor packing room a p q n : ℕ) (bs : List ℕ) (x : Told × List ℕ) (r : Result ℕ Refusal) → Ok x ≡ headerFrom 0 bs →
     x .0 ≡ header a p q n → a ≡ axes → p ≡ predictor → q ≡ packing → r ≡ counted room n → r ≡ headAt axes predictor packing room bs

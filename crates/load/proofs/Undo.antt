@@ -1,6 +1,6 @@
 -- Codes one after another, from what a packing gives. Assumes nothing.
 use mathlib.Core.Path.{_≡_, refl, sym, ap, ap₂, _∙_}
-use mathlib.Core.Bool.{Bool, true, false, cond, _&&_}
+use mathlib.Core.Bool.{Bool, true, false, _&&_}
 use mathlib.Core.List.{List, [], _∷_, _++_, append-assoc}
 use Prim.Native.Nat.{ℕ, _+_, _<_, _≤_}
 use native.Mathlib.Omega.{arith}
@@ -14,7 +14,6 @@ use Rattle.std.specs.declared.result.Result.{Result}
 use Rattle.std.specs.declared.result.Result.the-variants.{Ok, Err}
 use Rattle.refusal.specs.declared.Why.{Why}
 use Rattle.refusal.specs.declared.Why.the-variants.{Code}
-use Rattle.refusal.specs.declared.Refusal.{Refusal}
 use Rattle.kinds.specs.Kind.{KindMeaning}
 use Rattle.predict.specs.declared.Before.{Before}
 use Rattle.predict.specs.Predictor.{PredictorMeaning}

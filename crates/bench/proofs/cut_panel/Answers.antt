@@ -2,12 +2,9 @@ use mathlib.Core.Path.{ap, _∙_}
 use Rattle.std.proofs.shelf.Results.{err-from-errBy, made-from-err}
 use Rattle.law.specs.Calls.{no}
 use Rattle.bench.specs.States.{state, counted}
-use Rattle.bench.specs.Panels.{sight}
-use Rattle.bench.proofs.Panels.{exit, after-load, after-split, after-cut, after-close, placed}
+use Rattle.bench.specs.Onward.{sight}
+use Rattle.bench.proofs.Onward.{exit, after-load, after-split, after-cut, after-close, placed}
 use Rattle.bench.proofs.cut_panel.Needs as need
-
-pub no-run-misplaces-requires : need.no-run-misplaces-requires
-no-run-misplaces-requires g c κs = ?
 
 pub returns-in-Break-load : need.returns-in-Break-load
 returns-in-Break-load g c =
@@ -18,7 +15,7 @@ returns-in-Break-load g c =
     let p = err-from-errBy (c .from-residual .result) (c .from-residual .ensures .1) in
     record {
       does = after-load (g .K·PointKind .kind) (g .P·Predictor .means) (g .Q·Packing .means .reading) (c .args .file .now) (c .args .tolerance) ps ms bs _ (c .new-bench .ensures ps ms bs) s1 (no (c .in-Break-load .field-0 .0)) (c .in-Break-load .ensures tt ms bs)
-        ∙ ap (λ r. sight r (s1 .points) ms bs) (exit (c .from-residual .result) (p .0) (c .in-Break-load .field-0 .0) (p .1) (p .2));
+          ∙ ap (λ r. sight r (s1 .points) ms bs) (exit (c .from-residual .result) (p .0) (c .in-Break-load .field-0 .0) (p .1) (p .2));
       placed = made-from-err (c .from-residual .result) _ (c .from-residual .ensures .0);
       never = c .no-run-misplaces .ensures .never;
     }
@@ -33,7 +30,7 @@ returns-in-Break-split g c =
     let p = err-from-errBy (c .from-residual-in-Break-split .result) (c .from-residual-in-Break-split .ensures .1) in
     record {
       does = after-split (g .K·PointKind .kind) (g .P·Predictor .means) (g .Q·Packing .means .reading) (c .args .file .now) (c .args .tolerance) ps ms bs _ (c .new-bench .ensures ps ms bs) s1 (c .in-Continue-load .field-0) (c .in-Continue-load .ensures tt ms bs) s2 (no (c .in-Break-split .field-0 .0)) (c .in-Break-split .ensures tt bs)
-        ∙ ap (λ r. sight r (s2 .points) (s2 .marks) bs) (exit (c .from-residual-in-Break-split .result) (p .0) (c .in-Break-split .field-0 .0) (p .1) (p .2));
+          ∙ ap (λ r. sight r (s2 .points) (s2 .marks) bs) (exit (c .from-residual-in-Break-split .result) (p .0) (c .in-Break-split .field-0 .0) (p .1) (p .2));
       placed = made-from-err (c .from-residual-in-Break-split .result) _ (c .from-residual-in-Break-split .ensures .0);
       never = c .no-run-misplaces .ensures .never;
     }
@@ -50,7 +47,7 @@ returns-in-Break-cut g c =
     let p = err-from-errBy (c .from-residual-in-Break-cut .result) (c .from-residual-in-Break-cut .ensures .1) in
     record {
       does = after-cut (g .K·PointKind .kind) (g .P·Predictor .means) (g .Q·Packing .means .reading) (c .args .file .now) (c .args .tolerance) ps ms bs _ (c .new-bench .ensures ps ms bs) s1 (c .in-Continue-load .field-0) (c .in-Continue-load .ensures tt ms bs) s2 (counts .0) (counts .1) (c .in-Continue-split .ensures tt bs) s3 (no (c .in-Break-cut .field-0 .0)) (c .in-Break-cut .ensures tt)
-        ∙ ap (λ r. sight r (s3 .points) (s3 .marks) (s3 .program)) (exit (c .from-residual-in-Break-cut .result) (p .0) (c .in-Break-cut .field-0 .0) (p .1) (p .2));
+          ∙ ap (λ r. sight r (s3 .points) (s3 .marks) (s3 .program)) (exit (c .from-residual-in-Break-cut .result) (p .0) (c .in-Break-cut .field-0 .0) (p .1) (p .2));
       placed = made-from-err (c .from-residual-in-Break-cut .result) _ (c .from-residual-in-Break-cut .ensures .0);
       never = c .no-run-misplaces .ensures .never;
     }
@@ -72,7 +69,7 @@ returns g c =
     let counts = c .in-Continue-split .field-0 in
     let splits = c .in-Continue-split .ensures tt bs in
     let cuts = c .in-Continue-cut .ensures tt in
-    let closes = c .close .ensures (c .load .last .points) (c .split .last .marks) in
+    let closes = c .close .ensures .does (c .load .last .points) (c .split .last .marks) in
     record {
       does = after-close k m q (c .args .file .now) (c .args .tolerance) ps ms bs _ begins s1 _ loads s2 (counts .0) (counts .1) splits s3 _ cuts s4 (counted (c .close .result)) closes;
       placed = placed k m q (c .args .file .now) (c .args .tolerance) ps ms bs _ begins s1 _ loads s2 (counts .0) (counts .1) splits s3 _ cuts s4 (c .no-run-misplaces .ensures .never) (c .close .result) closes;

@@ -2,17 +2,18 @@
 ghost use mathlib.Core.Path.{_≡_};
 ghost use mathlib.Core.List.{List};
 ghost use Prim.Native.Nat.{ℕ};
-ghost use Rattle.law.specs.Calls.{step, outcome, new as untouched, load as Load, split as Split, cut as Cut, close as Close};
+ghost use Rattle.law.specs.Calls.{step, outcome, new as untouched, tolerance as toleranceOf, load as Load, split as Split, cut as Cut, close as Close};
+ghost use Rattle.law.specs.Law.{No-run-misplaces-a-panel};
 ghost use Rattle.bench.specs.States.{state, counted, counted-twice, plain};
 use super::Bench;
-use super::drawing::KEPT;
+use super::drawing::cut_size;
 use super::drawing::draw;
-use super::drawing::kept_count;
+use super::drawing::ends_kept;
 use super::knife::Raised;
 use super::knife::has_room;
-use super::knife::move_size;
 use kinds::PointKind;
 use law::Stage;
+use law::no_run_misplaces;
 use load::load;
 use pack::Packing;
 use predict::Predictor;
@@ -31,6 +32,13 @@ enum Event {
     Split,
     Cut,
     Close,
+}
+
+// The tolerance that is given, or the usual one.
+fn tolerance_or_usual(tolerance: Option<u32>) -> u32
+    ensures { λ r. ⌜ r ≡ toleranceOf tolerance ⌝ }
+{
+    tolerance.unwrap_or(USUAL_TOLERANCE)
 }
 
 // A refusal that is no matter of a file has the place 0.
@@ -61,7 +69,11 @@ impl<K: PointKind> Bench<K> {
     }
 
     // Loads a panel file into the front of the points, in the place of any panel before it.
-    pub fn load<P: Predictor, Q: Packing>(&mut self, file: &[u8], points: &mut [K]) -> Result<usize, Refusal>
+    pub fn load<P: Predictor, Q: Packing>(
+        &mut self,
+        file: &[u8],
+        points: &mut [K],
+    ) -> Result<usize, Refusal>
     where
         K: Copy,
         ensures { λ r. ⌜ ((marks program : List ℕ) → step (K·PointKind .kind) (state (now (self .entry)) (now (points .entry)) marks program) (Load (P·Predictor .means) (Q·Packing .means .reading) (now (file .entry))) ≡ outcome (state (now (self .exit)) (now (points .exit)) marks program) (counted r)) ⌝ }
@@ -79,15 +91,19 @@ impl<K: PointKind> Bench<K> {
     }
 
     // Marks the vertices that a cut must keep, and tells how many, and how many chords waited at most.
-    pub fn split(&mut self, tolerance: Option<u32>, points: &[K], marks: &mut [u8]) -> Result<(usize, usize), Refusal>
+    pub fn split(
+        &mut self,
+        tolerance: Option<u32>,
+        points: &[K],
+        marks: &mut [u8],
+    ) -> Result<(usize, usize), Refusal>
         ensures { λ r. ⌜ ((program : List ℕ) → step (K·PointKind .kind) (state (now (self .entry)) (now (points .entry)) (now (marks .entry)) program) (Split tolerance) ≡ outcome (state (now (self .exit)) (now (points .entry)) (now (marks .exit)) program) (counted-twice r)) ⌝ }
     {
         match (self.stage, Event::Split) {
             (Stage::Closed, _) => Err(refusal(Why::AlreadyClosed)),
             (Stage::Empty, _) => Err(refusal(Why::TooEarly)),
             (_, Event::Split) => {
-                let tolerance = tolerance.unwrap_or(USUAL_TOLERANCE);
-                match split(points, self.count, tolerance, marks) {
+                match split(points, self.count, tolerance_or_usual(tolerance), marks) {
                     Ok(counts) => {
                         self.stage = Stage::Split;
                         Ok(counts)
@@ -110,11 +126,10 @@ impl<K: PointKind> Bench<K> {
                 if points.len() < count || marks.len() < count {
                     return Err(refusal(Why::ShortList));
                 }
-                if marks[0] != KEPT || marks[count - 1] != KEPT {
+                if !ends_kept(marks, count) {
                     return Err(refusal(Why::Unfit));
                 }
-                let chain = kept_count(marks, count) * move_size::<K>() + 2;
-                if !has_room(program, self.size, chain + 1) {
+                if !has_room(program, self.size, cut_size::<K>(marks, count)) {
                     return Err(refusal(Why::NoSpace));
                 }
                 self.size = draw(&points[0..count], &marks[0..count], program, self.size);
@@ -126,8 +141,10 @@ impl<K: PointKind> Bench<K> {
 
     // Appends the finish. The bench takes no call after it.
     pub fn close(&mut self, program: &mut [u8]) -> Result<usize, Refusal>
-        ensures { λ r. ⌜ ((points : List K) (marks : List ℕ) → step (K·PointKind .kind) (state (now (self .entry)) points marks (now (program .entry))) Close ≡ outcome (state (now (self .exit)) points marks (now (program .exit))) (counted r)) ⌝ }
+        ensures does { λ r. ⌜ ((points : List K) (marks : List ℕ) → step (K·PointKind .kind) (state (now (self .entry)) points marks (now (program .entry))) Close ≡ outcome (state (now (self .exit)) points marks (now (program .exit))) (counted r)) ⌝ }
+        ensures never { λ _. ⌜ No-run-misplaces-a-panel (K·PointKind .kind) ⌝ }
     {
+        no_run_misplaces::<K>();
         match (self.stage, Event::Close) {
             (Stage::Closed, _) => Err(refusal(Why::AlreadyClosed)),
             (_, Event::Close) => match Raised::start(self.size).finish(program) {

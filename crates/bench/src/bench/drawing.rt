@@ -1,29 +1,55 @@
 // The chain of the kept vertices, drawn with the knife.
 ghost use mathlib.Core.Path.{_≡_};
-ghost use Prim.Native.Nat.{_+_, _≤_, _<_};
+ghost use mathlib.Core.Bool.{_&&_};
+ghost use Prim.Native.Nat.{_+_, _-_, _*_, _≤_, _<_};
+ghost use lib.Dec.{eqb};
 ghost use lib.ListN.{length, getD};
 ghost use Rattle.seam.specs.Ones.{ones};
 ghost use Rattle.law.specs.Program.{chainBytes, through, overwritten};
 ghost use Rattle.law.specs.Calls.{kept};
 use super::knife::Raised;
+use super::knife::move_size;
 use kinds::PointKind;
 
 // The mark of a kept vertex.
-pub(super) const KEPT: u8 = 1;
+const KEPT: u8 = 1;
 
-// How many of the first vertices are kept.
-pub(super) fn kept_count(marks: &[u8], vertices: usize) -> usize
+// Whether a vertex with such a mark is kept.
+fn is_kept(mark: u8) -> bool
+    ensures { λ r. ⌜ r ≡ eqb mark 1 ⌝ }
+{
+    mark == KEPT
+}
+
+// Whether the first and the last of the vertices are kept.
+pub(super) fn ends_kept(marks: &[u8], vertices: usize) -> bool
+    requires { ⌜ 1 ≤ vertices ⌝ ∗ ⌜ vertices ≤ length (now marks) ⌝ }
+    ensures { λ r. ⌜ r ≡ eqb (getD (now (marks .entry)) 0 0) 1 && eqb (getD (now (marks .entry)) (vertices - 1) 0) 1 ⌝ }
+{
+    is_kept(marks[0]) && is_kept(marks[vertices - 1])
+}
+
+// How many of the vertices are kept.
+fn kept_count(marks: &[u8], vertices: usize) -> usize
     requires { ⌜ vertices ≤ length (now marks) ⌝ }
     ensures value { λ r. ⌜ r ≡ ones vertices (now (marks .entry)) ⌝ }
     ensures bound { λ r. ⌜ r ≤ vertices ⌝ }
 {
     let mut count = 0;
     for mark in &marks[0..vertices] {
-        if *mark == KEPT {
+        if is_kept(*mark) {
             count += 1;
         }
     }
     count
+}
+
+// The bytes that a cut needs: a travel or stroke for each kept vertex, a D and a U; and the E that is still to come.
+pub(super) fn cut_size<K: PointKind>(marks: &[u8], vertices: usize) -> usize
+    requires { ⌜ vertices ≤ length (now marks) ⌝ ∗ ⌜ vertices ≤ 4096 ⌝ }
+    ensures { λ r. ⌜ r ≡ ones vertices (now (marks .entry)) * (1 + 4 * K·PointKind .kind .axes) + 2 + 1 ⌝ }
+{
+    kept_count(marks, vertices) * move_size::<K>() + 2 + 1
 }
 
 // Draws the kept points, the first of which is kept, where there is space for their chain; tells the length after it.
@@ -44,7 +70,7 @@ pub(super) fn draw<K: PointKind>(points: &[K], marks: &[u8], program: &mut [u8],
         Err(_) => unreachable(),
     };
     for i in 1..marks.len() {
-        if marks[i] == KEPT {
+        if is_kept(marks[i]) {
             knife = match knife.stroke(program, &points[i]) {
                 Ok(knife) => knife,
                 Err(_) => unreachable(),

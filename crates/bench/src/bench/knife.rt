@@ -12,9 +12,13 @@ use refusal::Why;
 
 // The letters of the commands.
 const TRAVEL: u8 = b'T';
+
 const LOWER: u8 = b'D';
+
 const STROKE: u8 = b'K';
+
 const RAISE: u8 = b'U';
+
 const FINISH: u8 = b'E';
 
 // Up, at a program length: it may travel, be lowered, or finish.
@@ -128,7 +132,12 @@ fn write_letter(program: &mut [u8], at: usize, letter: u8) -> Result<usize, (Why
 }
 
 // A letter, and the steps of a point: a signed number of four bytes for each axis, the lowest first.
-fn write_move<K: PointKind>(program: &mut [u8], at: usize, letter: u8, to: &K) -> Result<usize, (Why, usize)>
+fn write_move<K: PointKind>(
+    program: &mut [u8],
+    at: usize,
+    letter: u8,
+    to: &K,
+) -> Result<usize, (Why, usize)>
     ensures { λ r. ⌜ Writes (now (program .entry)) (now (program .exit)) at (letter ∷ spelled (steps (K·PointKind .kind) (now (to .entry)))) (λ n. n) at r ⌝ }
 {
     let need = move_size::<K>();

@@ -1,9 +1,6 @@
 use Rattle.bench.proofs.Loading.{loaded-proper}
 use Rattle.bench.proofs.bench.Bench.load.Needs as need
 
-pub load-requires : need.load-requires
-load-requires g c κs = ?
-
 pub ghost-self : need.ghost-self
 ghost-self g c =
-    (loaded-proper (g .K·PointKind .kind) (g .P·Predictor .means) (g .Q·Packing .means .reading) (c .args .file .now) _ (c .args .points .now) (c .load .last .points) (c .in-Continue-count .ensures tt), tt)
+    (loaded-proper (g .K·PointKind .kind) (g .P·Predictor .means) (g .Q·Packing .means .reading) (c .args .file .now) _ (c .args .points .now) (c .load .last .points) (c .in-Continue-count .ensures tt .does), tt)

@@ -7,19 +7,15 @@ use Rattle.refusal.specs.declared.Why.{Why}
 use Rattle.seam.specs.Seam.{splitOf}
 use Rattle.law.specs.Calls.{no, outcome, tolerance}
 use Rattle.bench.specs.States.{state}
-use Rattle.bench.proofs.Splitting.{usual, split-refused}
+use Rattle.bench.proofs.Splitting.{split-refused}
 use Rattle.bench.proofs.bench.Bench.split.Needs as need
-
-pub split-requires : need.split-requires
-split-requires g c κs = ?
 
 pub returns-in-Err : need.returns-in-Err
 returns-in-Err g c = λ program.
     let k = g .K·PointKind .kind in
     let b = c .args .self .now in
     let s = state b (c .args .points .now) (c .args .marks .now) program in
-    let t : c .unwrap-or-tolerance .result ≡ tolerance (c .args .tolerance) = c .unwrap-or-tolerance .ensures ∙ usual (c .args .tolerance) in
     let is : _≡_ {A = Result (ℕ × ℕ) Why × List ℕ} (Err (c .in-Err .why), c .split .last .marks) (splitOf k (tolerance (c .args .tolerance)) (b .count) (s .points) (s .marks)) =
-        c .in-Err .ensures tt .answer ∙ ap (λ n. splitOf k n (b .count) (s .points) (s .marks)) t in
+    c .in-Err .ensures tt .answer ∙ ap (λ n. splitOf k n (b .count) (s .points) (s .marks)) (c .tolerance-or-usual .ensures) in
     split-refused k s (tolerance (c .args .tolerance)) (b .ok) (c .in-rest-Split .not-Closed-0) (c .in-rest-Split .not-Empty-0) (c .in-Err .why) (c .split .last .marks) is
     ∙ ap (λ e. outcome (state b (c .args .points .now) (c .split .last .marks) program) (no e)) (sym (c .refusal-in-Err .ensures))

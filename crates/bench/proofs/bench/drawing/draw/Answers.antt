@@ -2,13 +2,14 @@ use mathlib.Core.Path.{_≡_, refl, sym, ap, _∙_}
 use mathlib.Core.List.{_++_}
 use Prim.Native.Nat.{_<_}
 use native.Mathlib.Omega.{arith}
+use borrow.Author.Tests.{eqb-true, eqb-false}
 use lib.ListN.{length, getD}
 use Rattle.law.specs.Program.{chainBytes, through, steps, travel, stroke, lower, overwritten}
 use Rattle.law.specs.Calls.{kept}
 use Rattle.bench.proofs.Chains.{rest, rest-kept, rest-left, rest-end, rest-kept-length, chain-first, chain-length}
 use Rattle.bench.proofs.Overwriting.{part-overwritten}
 use Rattle.bench.proofs.bench.drawing.draw.Needs as need
-use Rattle.bench.proofs.bench.drawing.draw.Needs.{then-marks-i-eq-KEPT·in-Ok-stroke, else-marks-i-eq-KEPT}
+use Rattle.bench.proofs.bench.drawing.draw.Needs.{then-is-kept·in-Ok-stroke, else-is-kept}
 
 pub unreachable-requires : need.unreachable-requires
 unreachable-requires g c κs =
@@ -42,7 +43,7 @@ loop-i-holds g c =
 pub unreachable-requires-in-Err-stroke : need.unreachable-requires-in-Err-stroke
 unreachable-requires-in-Err-stroke g c κs =
     let within : c .loop-i .i < length (c .args .points .now) = omega arith in
-    let left = rest-kept-length (g .K·PointKind .kind) (c .args .marks .now) (c .args .points .now) (c .loop-i .i) _ (c .loop-i-test .taken) within (c .index-points-i .is) (c .if-marks-i-eq-KEPT .taken) in
+    let left = rest-kept-length (g .K·PointKind .kind) (c .args .marks .now) (c .args .points .now) (c .loop-i .i) _ (c .loop-i-test .taken) within (c .index-points-i .is) (eqb-true _ _ (sym (c .is-kept .ensures) ∙ c .if-is-kept .taken)) in
     let full = c .in-Err-stroke .ensures tt .0 in
     let room = c .loop-i .inv .2 in
     let same = c .loop-i .inv .1 in
@@ -57,15 +58,15 @@ loop-i-again g c =
     let within : i < length ps = omega arith in
     let same = c .loop-i .inv .1 in
     let room = c .loop-i .inv .2 in
-    elim (c .if-marks-i-eq-KEPT .came) [
-      | then-marks-i-eq-KEPT·in-Ok-stroke w ↦
+    elim (c .if-is-kept .came) [
+      | then-is-kept·in-Ok-stroke w ↦
           let p = w .index-points-i .result in
-          let parts = rest-kept k ms ps i p (c .loop-i-test .taken) within (w .index-points-i .is) (w .if-marks-i-eq-KEPT .taken) in
-          let long = rest-kept-length k ms ps i p (c .loop-i-test .taken) within (w .index-points-i .is) (w .if-marks-i-eq-KEPT .taken) in
+          let parts = rest-kept k ms ps i p (c .loop-i-test .taken) within (w .index-points-i .is) (eqb-true _ _ (sym (c .is-kept .ensures) ∙ w .if-is-kept .taken)) in
+          let long = rest-kept-length k ms ps i p (c .loop-i-test .taken) within (w .index-points-i .is) (eqb-true _ _ (sym (c .is-kept .ensures) ∙ w .if-is-kept .taken)) in
           let moved = ap (λ k. k .at) (w .knife-is ∙ w .in-Ok-stroke .ensures tt .1) in
           (part-overwritten _ _ (stroke (steps k p)) _ _ _ _ _ (w .program-is ∙ w .in-Ok-stroke .ensures tt .2) moved parts (omega arith) (c .loop-i .inv .0), omega arith, room)
-      | else-marks-i-eq-KEPT w ↦
-          let skip = rest-left k ms ps i (c .index-points-0 .result) (c .loop-i-test .taken) within (w .if-marks-i-eq-KEPT .left) in
+      | else-is-kept w ↦
+          let skip = rest-left k ms ps i (c .index-points-0 .result) (c .loop-i-test .taken) within (eqb-false _ _ (sym (c .is-kept .ensures) ∙ w .if-is-kept .left)) in
           let still = ap (λ k. k .at) (w .knife-is) in
           (cc (c .loop-i .inv .0, w .program-is, still, skip), omega (arith, ap length skip), room)
     ]

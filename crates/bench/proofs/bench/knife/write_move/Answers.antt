@@ -32,7 +32,7 @@ loop-axis-again g c =
     let room = leb-true _ _ (sym (c .has-room .ensures) ∙ c .if-not-has-room .left) in
     let fits : SFits w32 (c .coordinate .result) = search needs in
     let is : c .copy-from-slice .last .self ≡ le32 (ofZ w32 (told (c .loop-axis .axis))) =
-        c .copy-from-slice .ensures .after ∙ c .to-le-bytes-word .ensures ∙ ap (λ z. le32 (ofZ w32 z)) (toZ-ofZ fits ∙ c .coordinate .ensures) in
+    c .copy-from-slice .ensures .after ∙ c .to-le-bytes-word .ensures ∙ ap (λ z. le32 (ofZ w32 z)) (toZ-ofZ fits ∙ c .coordinate .ensures) in
     steps-more xs (c .loop-axis .program) (c .copy-from-slice .last .self) (c .args .at + 1) (c .loop-axis .axis) _ _ told (c .loop-axis .inv) is (omega arith) (omega arith) (simp length-set (omega (arith, c .move-size-need .ensures .value)))
 
 pub returns : need.returns
@@ -41,9 +41,10 @@ returns g c =
     let long : length (spelled zs) ≡ 4 * g .K·PointKind .kind .axes = length-steps (g .K·PointKind .kind) (c .args .to .now) in
     let room = leb-true _ _ (sym (c .has-room .ensures) ∙ c .if-not-has-room .left) in
     let all : c .loop-axis .axis ≡ g .K·PointKind .kind .axes = omega arith in
-    let xs : List ℕ = set (c .args .program .now) (c .args .at) (c .args .letter) in
-    ( omega (arith, c .move-size-need .ensures .value)
-    , omega (arith, c .move-size-need .ensures .value)
-    , c .loop-axis .inv
-      ∙ ap (λ n. overwritten xs (c .args .at + 1) (spelled (map (g .K·PointKind .kind .coordinate (c .args .to .now)) (counting 0 n)))) all
-      ∙ letter-steps (c .args .program .now) (c .args .at) (c .args .letter) (spelled zs) (omega (arith, c .move-size-need .ensures .value)) )
+    let xs : List ℕ = set (c .args .program .now) (c .args .at) (c .args .letter) in (
+      omega (arith, c .move-size-need .ensures .value),
+      omega (arith, c .move-size-need .ensures .value),
+      c .loop-axis .inv
+          ∙ ap (λ n. overwritten xs (c .args .at + 1) (spelled (map (g .K·PointKind .kind .coordinate (c .args .to .now)) (counting 0 n)))) all
+          ∙ letter-steps (c .args .program .now) (c .args .at) (c .args .letter) (spelled zs) (omega (arith, c .move-size-need .ensures .value)),
+    )

@@ -22,7 +22,7 @@ use Rattle.law.specs.Calls.{Call, load, split, cut, close, State, Answer, one, 
 use Rattle.law.specs.Runs.{run, accepted, noted}
 use Rattle.law.specs.Law.{MisplacesNone, No-run-misplaces-a-panel}
 use Rattle.bench.specs.States.{counted}
-use Rattle.bench.specs.Panels.{Sight, sight, panelCalls, onward}
+use Rattle.bench.specs.Onward.{Sight, sight, seen, unless-refused, onward}
 
 -- what the exit of a refused call answers
 pub exit : (r : Result ℕ Refusal) (y e : Refusal) → r ≡ Err y → y ≡ e → no e ≡ counted r
@@ -43,11 +43,11 @@ module _ {P : Type 0} (k : KindMeaning P) where
     finished-tells : Tells (finished k s)
     finished-tells =
         cond-both (ltb (s .size) (length (s .program))) _ _ Tells
-          (λ _ is.
-            let long = ap (λ (x : Outcome P). x .after .size) is in
-            let answers = ap (λ (x : Outcome P). x .answer) is in
-            cc)
-          (λ _. never _ (refused s NoSpace) refl)
+        (λ _ is.
+        let long = ap (λ (x : Outcome P). x .after .size) is in
+        let answers = ap (λ (x : Outcome P). x .answer) is in
+        cc)
+        (λ _. never _ (refused s NoSpace) refl)
 
     close-tells : (stage : Stage) → Tells (close-at k stage s)
     close-tells Empty = finished-tells
@@ -57,30 +57,33 @@ module _ {P : Type 0} (k : KindMeaning P) where
 
   module _ (m : PredictorMeaning) (q : ReadingMeaning) (file : List ℕ) (t : Option ℕ) (ps : List P) (ms bs : List ℕ) where
     abbrev Calls : List Call
-    Calls = panelCalls m q file t
+    Calls = load m q file ∷ split t ∷ cut ∷ close ∷ []
 
     abbrev Whole : Sight P
-    Whole = onward k (new ps ms bs) (one 0) Calls
+    Whole = onward k (new ps ms bs) (load m q file) (split t ∷ cut ∷ close ∷ [])
 
-    -- the next of the calls, from what those before it left
-    next : (s : State P) (c : Call) (cs : List Call) (s′ : State P) (r : Answer) → step k s c ≡ outcome s′ r → onward k (step k s c .after) (step k s c .answer) cs ≡ onward k s′ r cs
-    next s c cs s′ r is = ap (λ (o : Outcome P). onward k (o .after) (o .answer) cs) is
+    -- what comes of an answer
+    abbrev On : State P → Answer → Call → List Call → Sight P
+    On s r c cs = unless-refused r (sight r (s .points) (s .marks) (s .program)) (onward k s c cs)
+
+    next : (s s′ : State P) (r : Answer) (c d : Call) (ds : List Call) → step k s c ≡ outcome s′ r → onward k s c (d ∷ ds) ≡ On s′ r d ds
+    next s s′ r c d ds is = ap (λ (o : Outcome P). On (o .after) (o .answer) d ds) is
 
     module _ (s0 : State P) (begins : s0 ≡ new ps ms bs) where
-      pub after-load : (s1 : State P) (r : Answer) → step k s0 (load m q file) ≡ outcome s1 r → Whole ≡ onward k s1 r (split t ∷ cut ∷ close ∷ [])
-      after-load s1 r is = ap (λ s. onward k s (one 0) Calls) (sym begins) ∙ next s0 (load m q file) (split t ∷ cut ∷ close ∷ []) s1 r is
+      pub after-load : (s1 : State P) (r : Answer) → step k s0 (load m q file) ≡ outcome s1 r → Whole ≡ On s1 r (split t) (cut ∷ close ∷ [])
+      after-load s1 r is = ap (λ s. onward k s (load m q file) (split t ∷ cut ∷ close ∷ [])) (sym begins) ∙ next s0 s1 r (load m q file) (split t) (cut ∷ close ∷ []) is
 
       module _ (s1 : State P) (n1 : ℕ) (loads : step k s0 (load m q file) ≡ outcome s1 (one n1)) where
-        pub after-split : (s2 : State P) (r : Answer) → step k s1 (split t) ≡ outcome s2 r → Whole ≡ onward k s2 r (cut ∷ close ∷ [])
-        after-split s2 r is = after-load s1 (one n1) loads ∙ next s1 (split t) (cut ∷ close ∷ []) s2 r is
+        pub after-split : (s2 : State P) (r : Answer) → step k s1 (split t) ≡ outcome s2 r → Whole ≡ On s2 r cut (close ∷ [])
+        after-split s2 r is = after-load s1 (one n1) loads ∙ next s1 s2 r (split t) cut (close ∷ []) is
 
         module _ (s2 : State P) (kept waits : ℕ) (splits : step k s1 (split t) ≡ outcome s2 (two kept waits)) where
-          pub after-cut : (s3 : State P) (r : Answer) → step k s2 cut ≡ outcome s3 r → Whole ≡ onward k s3 r (close ∷ [])
-          after-cut s3 r is = after-split s2 (two kept waits) splits ∙ next s2 cut (close ∷ []) s3 r is
+          pub after-cut : (s3 : State P) (r : Answer) → step k s2 cut ≡ outcome s3 r → Whole ≡ On s3 r close []
+          after-cut s3 r is = after-split s2 (two kept waits) splits ∙ next s2 s3 r cut close [] is
 
           module _ (s3 : State P) (n3 : ℕ) (cuts : step k s2 cut ≡ outcome s3 (one n3)) (s4 : State P) where
             pub after-close : (r : Answer) → step k s3 close ≡ outcome s4 r → Whole ≡ sight r (s4 .points) (s4 .marks) (s4 .program)
-            after-close r is = after-cut s3 (one n3) cuts ∙ next s3 close [] s4 r is
+            after-close r is = after-cut s3 (one n3) cuts ∙ ap (λ (o : Outcome P). seen o) is
 
             runs : (n4 : ℕ) → step k s3 close ≡ outcome s4 (one n4) → run k s0 Calls ≡ s4
             runs n4 is =
@@ -102,5 +105,5 @@ module _ {P : Type 0} (k : KindMeaning P) where
                 let all : accepted k (new ps ms bs) Calls ≡ Calls = ap (λ s. accepted k s Calls) (sym begins) ∙ accepts n is in
                 let tells : s4 .size ≡ n = close-tells s3 s4 n (s3 .stage) is in
                 subst (λ (size : ℕ). Fine Calls size (s4 .program)) tells
-                  (subst (λ (s : State P). Fine Calls (s .size) (s .program)) end
-                    (subst (λ (calls : List Call). Fine calls (run k (new ps ms bs) Calls .size) (run k (new ps ms bs) Calls .program)) all (law ps ms bs Calls)))
+                (subst (λ (s : State P). Fine Calls (s .size) (s .program)) end
+                (subst (λ (calls : List Call). Fine calls (run k (new ps ms bs) Calls .size) (run k (new ps ms bs) Calls .program)) all (law ps ms bs Calls)))
