@@ -1,7 +1,7 @@
 // A list of calls on one bench of the flat kind, with the same three lists throughout.
-use bench::Bench;
 use crate::reader::Reader;
 use crate::run::tolerance;
+use bench::Bench;
 use kinds::Flat;
 use kinds::FlatKind;
 use pack::Plain;
@@ -20,11 +20,15 @@ struct Lists {
     program: Vec<u8>,
 }
 
-fn lists(heap: Global, r: &mut Reader) -> Result<Lists, AnyError> {
+fn lent_lists(heap: Global, r: &mut Reader) -> Result<Lists, AnyError> {
     let points = vec![in heap; Flat { x: 0, y: 0 }; r.number()? as usize]?;
     let marks = vec![in heap; 0u8; r.number()? as usize]?;
     let program = vec![in heap; 0u8; r.number()? as usize]?;
-    Ok(Lists { points, marks, program })
+    Ok(Lists {
+        points,
+        marks,
+        program,
+    })
 }
 
 fn note_number(out: &mut Vec<u8>, n: usize) -> Result<(), AnyError> {
@@ -76,18 +80,36 @@ fn poke(code: u8, lists: &mut Lists, r: &mut Reader) -> Result<(), AnyError> {
     Ok(())
 }
 
-fn call(bench: &mut Bench<Flat>, lists: &mut Lists, out: &mut Vec<u8>, r: &mut Reader) -> Result<(), AnyError> {
+fn call(
+    bench: &mut Bench<Flat>,
+    lists: &mut Lists,
+    out: &mut Vec<u8>,
+    r: &mut Reader,
+) -> Result<(), AnyError> {
     let code = r.byte()?;
     match code {
         0 => {
             let file = r.block()?;
-            note_one(out, bench.load::<Lag1, Plain>(file, lists.points.as_mut_slice()))
+            note_one(
+                out,
+                bench.load::<Lag1, Plain>(file, lists.points.as_mut_slice()),
+            )
         }
         1 => {
             let t = tolerance(r.short()?);
-            note_two(out, bench.split(t, lists.points.as_slice(), lists.marks.as_mut_slice()))
+            note_two(
+                out,
+                bench.split(t, lists.points.as_slice(), lists.marks.as_mut_slice()),
+            )
         }
-        2 => note_one(out, bench.cut(lists.points.as_slice(), lists.marks.as_slice(), lists.program.as_mut_slice())),
+        2 => note_one(
+            out,
+            bench.cut(
+                lists.points.as_slice(),
+                lists.marks.as_slice(),
+                lists.program.as_mut_slice(),
+            ),
+        ),
         3 => note_one(out, bench.close(lists.program.as_mut_slice())),
         4 | 5 => poke(code, lists, r),
         _ => Err("there is no such call".into()),
@@ -96,7 +118,7 @@ fn call(bench: &mut Bench<Flat>, lists: &mut Lists, out: &mut Vec<u8>, r: &mut R
 
 // Each call's answer, and then the whole program list.
 pub fn answers(heap: Global, r: &mut Reader) -> Result<Vec<u8>, AnyError> {
-    let mut lists = lists(heap, r)?;
+    let mut lists = lent_lists(heap, r)?;
     let mut bench = Bench::<Flat>::new();
     let mut out = Vec::new(heap);
     let count = r.byte()?;

@@ -2,6 +2,7 @@
 mod calls;
 mod reader;
 mod run;
+
 use range::range::Range;
 use reader::Reader;
 use run::Pairing;

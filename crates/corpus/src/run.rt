@@ -1,6 +1,6 @@
 // A panel file cut on a new bench, and design points stored, for any kind, predictor and packing.
-use bench::cut_panel;
 use crate::reader::Reader;
+use bench::cut_panel;
 use kinds::Flat;
 use kinds::FlatKind;
 use kinds::Mould;
@@ -52,7 +52,12 @@ pub struct Pairing {
 }
 
 // What the library gives for the record: the bytes written, or the line of the refusal.
-pub fn answer(heap: Global, task: Task, pairing: Pairing, r: &mut Reader) -> Result<Vec<u8>, AnyError> {
+pub fn answer(
+    heap: Global,
+    task: Task,
+    pairing: Pairing,
+    r: &mut Reader,
+) -> Result<Vec<u8>, AnyError> {
     match pairing.axes {
         2 => for_kind::<Flat>(heap, task, pairing, r),
         3 => for_kind::<Mould>(heap, task, pairing, r),
@@ -60,7 +65,12 @@ pub fn answer(heap: Global, task: Task, pairing: Pairing, r: &mut Reader) -> Res
     }
 }
 
-fn for_kind<K: PointKind + Copy + Drop>(heap: Global, task: Task, pairing: Pairing, r: &mut Reader) -> Result<Vec<u8>, AnyError> {
+fn for_kind<K: PointKind + Copy + Clone + Drop>(
+    heap: Global,
+    task: Task,
+    pairing: Pairing,
+    r: &mut Reader,
+) -> Result<Vec<u8>, AnyError> {
     match pairing.predictor {
         0 => for_predictor::<K, Lag1>(heap, task, pairing, r),
         1 => for_predictor::<K, Lag2>(heap, task, pairing, r),
@@ -75,7 +85,12 @@ fn for_kind<K: PointKind + Copy + Drop>(heap: Global, task: Task, pairing: Pairi
     }
 }
 
-fn for_predictor<K: PointKind + Copy + Drop, P: Predictor>(heap: Global, task: Task, pairing: Pairing, r: &mut Reader) -> Result<Vec<u8>, AnyError> {
+fn for_predictor<K: PointKind + Copy + Clone + Drop, P: Predictor>(
+    heap: Global,
+    task: Task,
+    pairing: Pairing,
+    r: &mut Reader,
+) -> Result<Vec<u8>, AnyError> {
     match (pairing.packing, task) {
         (0, Task::Cut) => cut::<K, P, Plain>(heap, r),
         (1, Task::Cut) => cut::<K, P, Fielded>(heap, r),
@@ -86,7 +101,11 @@ fn for_predictor<K: PointKind + Copy + Drop, P: Predictor>(heap: Global, task: T
 }
 
 // The front of a list, or a refusal's line.
-pub fn written(heap: Global, answer: Result<usize, Refusal>, list: &[u8]) -> Result<Vec<u8>, AnyError> {
+pub fn written(
+    heap: Global,
+    answer: Result<usize, Refusal>,
+    list: &[u8],
+) -> Result<Vec<u8>, AnyError> {
     match answer {
         Ok(n) => Ok(list[0..n.min(list.len())].to_vec(heap)?),
         Err(e) => Ok(e.line().to_vec(heap)?),
@@ -98,7 +117,10 @@ pub fn tolerance(n: u16) -> Option<u32> {
     if n == 65535 { None } else { Some(u32::from(n)) }
 }
 
-fn cut<K: PointKind + Copy + Drop, P: Predictor, Q: Packing>(heap: Global, r: &mut Reader) -> Result<Vec<u8>, AnyError> {
+fn cut<K: PointKind + Copy + Clone + Drop, P: Predictor, Q: Packing>(
+    heap: Global,
+    r: &mut Reader,
+) -> Result<Vec<u8>, AnyError> {
     let t = tolerance(r.short()?);
     let mut points = vec![in heap; K::make(0, 0, 0); r.number()? as usize]?;
     let mut marks = vec![in heap; 0u8; r.number()? as usize]?;
@@ -125,7 +147,10 @@ fn sound_range(r: &mut Reader) -> Result<Range, AnyError> {
     }
 }
 
-fn stored<K: PointKind + Copy + Drop, P: Predictor, Q: Packing>(heap: Global, r: &mut Reader) -> Result<Vec<u8>, AnyError> {
+fn stored<K: PointKind + Copy + Clone + Drop, P: Predictor, Q: Packing>(
+    heap: Global,
+    r: &mut Reader,
+) -> Result<Vec<u8>, AnyError> {
     let ranges = [sound_range(r)?, sound_range(r)?, sound_range(r)?];
     let mut work = vec![in heap; 0i32; r.number()? as usize]?;
     let mut file = vec![in heap; 0u8; r.number()? as usize]?;
@@ -137,6 +162,11 @@ fn stored<K: PointKind + Copy + Drop, P: Predictor, Q: Packing>(heap: Global, r:
         let z = if K::axis_count() > 2 { r.signed()? } else { 0 };
         design.push(K::make(x, y, z))?;
     }
-    let answer = store::<K, P, Q>(design.as_slice(), &ranges, work.as_mut_slice(), file.as_mut_slice());
+    let answer = store::<K, P, Q>(
+        design.as_slice(),
+        &ranges,
+        work.as_mut_slice(),
+        file.as_mut_slice(),
+    );
     written(heap, answer, file.as_slice())
 }

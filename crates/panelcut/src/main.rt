@@ -71,7 +71,8 @@ fn advice(why: Why) -> &'static str {
         Why::SpareBits => "the spare bits of a body are not zero: the file is damaged",
         Why::Code => "a code lies outside its range: the file is damaged",
         Why::Trailing => "bytes follow the end of the panel: feed one panel at a time",
-        Why::NoSpace => "the program is too long for the controller: split the panel or ask for a wider tolerance",
+        Why::NoSpace =>
+            "the program is too long for the controller: split the panel or ask for a wider tolerance",
         _ => "the panel is not accepted: see docs/BENCH.md for the reason of this number",
     }
 }
