@@ -1,29 +1,31 @@
 -- What reading a file comes to at each of its exits. Assumes nothing.
 use mathlib.Core.Path.{_≡_, refl, sym, ap, subst, _∙_}
-use mathlib.Core.Bool.{true}
+use mathlib.Core.Bool.{Bool, true, false, cond}
 use mathlib.Core.List.{List, [], _∷_, _++_}
 use Prim.Native.Nat.{ℕ, zero, suc, _+_, _-_, _≤_}
 use native.Mathlib.Omega.{arith}
-use lib.Dec.{ltb}
+use lib.Dec.{ltb, eqb}
 use lib.IntN.{ℤ}
-use lib.ListN.{length, take, drop}
+use lib.ListN.{length, getD, take, drop}
 use Rattle.std.specs.shelf.Lists.{All}
 use Rattle.std.specs.Results.{isOk}
 use Rattle.std.specs.declared.result.Result.{Result}
 use Rattle.std.specs.declared.result.Result.the-variants.{Ok, Err}
 use Rattle.std.proofs.shelf.Lists.{take-rest}
-use Rattle.std.proofs.shelf.Tests.{cond-both}
+use Rattle.std.proofs.shelf.Tests.{cond-both, ltb-false}
+use Rattle.refusal.specs.declared.Why.the-variants.{Truncated, Letter, AxisCount, PredictorByte, PackingByte, VertexCount, ShortList}
 use Rattle.refusal.specs.declared.Refusal.{Refusal}
 use Rattle.kinds.specs.Kind.{KindMeaning}
 use Rattle.predict.specs.declared.Before.{Before}
 use Rattle.predict.specs.Predictor.{PredictorMeaning}
 use Rattle.predict.specs.Residues.{start, after, restored, valuesFrom, values}
-use Rattle.pack.specs.Packing.{ReadingMeaning, Reading, numbers, refused as refused′}
+use Rattle.pack.specs.Packing.{ReadingMeaning, Reading, numbers, refused as refused′, Counted}
 use Rattle.range.specs.Scale.{Scale}
 use Rattle.panel.specs.Panel.{Axis, Panel}
-use Rattle.panel.specs.Judging.{andThen, Rest, headAt, rangeAt, lengthAt, endAt, bodyAt, axisAt, axesAt, undone, more, allCodes, judged}
-use Rattle.panel.specs.Placed.{filled, placed}
-use Rattle.load.specs.Steps.{pastOf}
+use Rattle.panel.specs.Judging.{refuse, andThen, Rest, headAt, rangeAt, lengthAt, endAt, bodyAt, axisAt, axesAt, undone, more, allCodes, judged}
+use Rattle.panel.specs.Words.{word}
+use Rattle.panel.specs.Placed.{filled, placed, loadOf}
+use Rattle.load.specs.Steps.{pastOf, countOf}
 use Rattle.load.specs.Filling.{fillBy}
 use Rattle.load.proofs.Axis.{then-is}
 use Rattle.load.proofs.Points.{points-are}
@@ -113,21 +115,89 @@ module _ (m : PredictorMeaning) (q : ReadingMeaning) (axes room : ℕ) (file : L
           let y = past-ok (axesAt m q n axes (drop 8 file, 8)) (drop at file, at) a in
           then-is _ _ _ h ∙ then-is _ _ _ (y .1) ∙ then-is (endAt at (drop at file)) (Err e) _ (ended (Err e) x)
 
-      pub accepted : isOk (axesAt m q n axes (drop 8 file, 8)) ≡ true
-      accepted = ap isOk (past-ok (axesAt m q n axes (drop 8 file, 8)) (drop at file, at) a .1)
-
-      pub read-all : {P : Type 0} (k : KindMeaning P) (old out : List P) → axes ≡ k .axes → room ≡ length old → n ≤ room →
-          Ok tt ≡ endAt at (take (length file - at) (drop at file)) → out ≡ fillBy k 0 (axesAt m q n axes (drop 8 file, 8)) old →
-          _≡_ {A = Result ℕ Refusal × List P} (Ok n, out) (filled k (judged m q axes room file) old)
+      pub read-all : Ok tt ≡ endAt at (take (length file - at) (drop at file)) → countOf (judged m q axes room file) ≡ Ok n
       unfolding judged
-      read-all {P} k old out count long enough x fill =
+      read-all x =
           let y = past-ok (axesAt m q n axes (drop 8 file, 8)) (drop at file, at) a in
-          let f : Full m q n axes (Ok (y .0, (drop at file, at))) = subst (Full m q n axes) (y .1) (full m q n axes (drop 8 file, 8)) in
-          let read : judged m q axes room file ≡ Ok (record { count = n; axes = y .0 }) =
-          then-is _ _ _ h ∙ then-is _ _ _ (y .1) ∙ then-is (endAt at (drop at file)) (Ok tt) _ (ended (Ok tt) x) in
-          let points : out ≡ placed k (record { count = n; axes = y .0 }) ++ drop n old =
-          fill ∙ ap (λ r. fillBy k 0 r old) (y .1) ∙ points-are k (y .0) n old (f .0 ∙ count) (f .1) (omega arith) in
-          ap (λ (ps : List P). (Ok n, ps)) points ∙ sym (ap (λ r. filled k r old) read)
+          ap countOf (then-is _ _ _ h ∙ then-is _ _ _ (y .1) ∙ then-is (endAt at (drop at file)) (Ok tt) _ (ended (Ok tt) x))
+
+  -- what an accepted file is known to be
+  pub record Accepted (n : ℕ) : Type 0 where
+    pub counted : Counted n
+    pub headed : 8 ≤ length file
+    pub fits : n ≤ room
+    pub axes-read : isOk (axesAt m q n axes (drop 8 file, 8)) ≡ true
+    pub panel : List Axis
+    pub rest : Rest
+    pub axes-are : axesAt m q n axes (drop 8 file, 8) ≡ Ok (panel, rest)
+    pub reads : judged m q axes room file ≡ Ok (record { count = n; axes = panel })
+
+  header-known : (n k : ℕ) (short right axes predictor packing few many tight : Bool) → ltb (length file) 8 ≡ short → ltb n 2 ≡ few → ltb 4096 n ≡ many → ltb room n ≡ tight →
+      cond short (refuse Truncated 0) (cond right (cond axes (cond predictor (cond packing
+      (cond few (refuse VertexCount 0) (cond many (refuse VertexCount 0) (cond tight (refuse ShortList 0) (Ok n))))
+      (refuse PackingByte 0)) (refuse PredictorByte 0)) (refuse AxisCount 0)) (refuse Letter 0)) ≡ Ok k →
+      (8 ≤ length file) × Counted k × (k ≤ room)
+  header-known n k true right axes predictor packing few many tight s f m t h = let z : _≡_ {A = ℕ} 0 1 = cc in absurd (omega arith)
+  header-known n k false false axes predictor packing few many tight s f m t h = let z : _≡_ {A = ℕ} 0 1 = cc in absurd (omega arith)
+  header-known n k false true false predictor packing few many tight s f m t h = let z : _≡_ {A = ℕ} 0 1 = cc in absurd (omega arith)
+  header-known n k false true true false packing few many tight s f m t h = let z : _≡_ {A = ℕ} 0 1 = cc in absurd (omega arith)
+  header-known n k false true true true false few many tight s f m t h = let z : _≡_ {A = ℕ} 0 1 = cc in absurd (omega arith)
+  header-known n k false true true true true true many tight s f m t h = let z : _≡_ {A = ℕ} 0 1 = cc in absurd (omega arith)
+  header-known n k false true true true true false true tight s f m t h = let z : _≡_ {A = ℕ} 0 1 = cc in absurd (omega arith)
+  header-known n k false true true true true false false true s f m t h = let z : _≡_ {A = ℕ} 0 1 = cc in absurd (omega arith)
+  header-known n k false true true true true false false false s f m t h =
+      let e : n ≡ k = cc in
+      let a : 8 ≤ length file = ltb-false _ _ s in
+      let b : 2 ≤ n = ltb-false _ _ f in
+      let c : n ≤ 4096 = ltb-false _ _ m in
+      let d : n ≤ room = ltb-false _ _ t in
+      (a, (omega arith, omega arith), omega arith)
+
+  head-known : (k : ℕ) → headAt axes (m .number) (q .number) room file ≡ Ok k → (8 ≤ length file) × Counted k × (k ≤ room)
+  head-known k h = header-known (word file 4) k (ltb (length file) 8) (eqb (getD file 0 0) 0x4E) (eqb (getD file 1 0) axes) (eqb (getD file 2 0) (m .number)) (eqb (getD file 3 0) (q .number)) (ltb (word file 4) 2) (ltb 4096 (word file 4)) (ltb room (word file 4)) refl refl refl refl h
+
+  by-end : (n k : ℕ) (y : List Axis × Rest) (u : Result (Unit {0}) Refusal) → headAt axes (m .number) (q .number) room file ≡ Ok k → axesAt m q k axes (drop 8 file, 8) ≡ Ok y → endAt (y .1 .1) (y .1 .0) ≡ u →
+      countOf (andThen u (λ _. Ok (record { count = k; axes = y .0 }))) ≡ Ok n → Accepted n
+  unfolding judged
+  by-end n k y (Ok tt) h a e c =
+      let k-is : k ≡ n = cc in
+      let known = head-known k h in
+      subst Accepted k-is (record {
+        counted = known .1;
+        headed = known .0;
+        fits = known .2;
+        axes-read = ap isOk a;
+        panel = y .0;
+        rest = y .1;
+        axes-are = a;
+        reads = then-is _ _ _ h ∙ then-is _ _ _ a ∙ then-is (endAt (y .1 .1) (y .1 .0)) (Ok tt) _ e;
+      })
+  by-end n k y (Err d) h a e c = let z : _≡_ {A = ℕ} 0 1 = cc in absurd (omega arith)
+
+  by-axes : (n k : ℕ) (r : Result (List Axis × Rest) Refusal) → headAt axes (m .number) (q .number) room file ≡ Ok k → axesAt m q k axes (drop 8 file, 8) ≡ r →
+      countOf (andThen r (λ x. andThen (endAt (x .1 .1) (x .1 .0)) (λ _. Ok (record { count = k; axes = x .0 })))) ≡ Ok n → Accepted n
+  by-axes n k (Ok y) h a c = by-end n k y (endAt (y .1 .1) (y .1 .0)) h a refl c
+  by-axes n k (Err d) h a c = let z : _≡_ {A = ℕ} 0 1 = cc in absurd (omega arith)
+
+  by-head : (n : ℕ) (r : Result ℕ Refusal) → headAt axes (m .number) (q .number) room file ≡ r →
+      countOf (andThen r (λ k. andThen (axesAt m q k axes (drop 8 file, 8)) (λ x. andThen (endAt (x .1 .1) (x .1 .0)) (λ _. Ok (record { count = k; axes = x .0 }))))) ≡ Ok n → Accepted n
+  by-head n (Ok k) h c = by-axes n k (axesAt m q k axes (drop 8 file, 8)) h refl c
+  by-head n (Err d) h c = let z : _≡_ {A = ℕ} 0 1 = cc in absurd (omega arith)
+
+  pub accepted : (n : ℕ) → countOf (judged m q axes room file) ≡ Ok n → Accepted n
+  unfolding judged
+  accepted n c = by-head n (headAt axes (m .number) (q .number) room file) refl c
+
+-- the points of an accepted file, once they are filled
+pub placed-all : {P : Type 0} (k : KindMeaning P) (m : PredictorMeaning) (q : ReadingMeaning) (file : List ℕ) (old out : List P) (n : ℕ) →
+    countOf (judged m q (k .axes) (length old) file) ≡ Ok n → out ≡ fillBy k 0 (axesAt m q n (k .axes) (drop 8 file, 8)) old →
+    _≡_ {A = Result ℕ Refusal × List P} (Ok n, out) (loadOf k m q file old)
+placed-all {P} k m q file old out n c fill =
+    let x = accepted m q (k .axes) (length old) file n c in
+    let f : Full m q n (k .axes) (Ok (x .panel, x .rest)) = subst (Full m q n (k .axes)) (x .axes-are) (full m q n (k .axes) (drop 8 file, 8)) in
+    let points : out ≡ placed k (record { count = n; axes = x .panel }) ++ drop n old =
+    fill ∙ ap (λ r. fillBy k 0 r old) (x .axes-are) ∙ points-are k (x .panel) n old (f .0) (f .1) (x .fits) in
+    ap (λ (ps : List P). (Ok n, ps)) points ∙ sym (ap (λ r. filled k r old) (x .reads))
 
 pub head-same : (a a′ p p′ q q′ room : ℕ) (file : List ℕ) (r : Result ℕ Refusal) → a ≡ a′ → p ≡ p′ → q ≡ q′ → r ≡ headAt a p q room file → headAt a′ p′ q′ room file ≡ r
 head-same a a′ p p′ q q′ room file r ea ep eq h =
@@ -135,6 +205,3 @@ head-same a a′ p p′ q q′ room file r ea ep eq h =
 
 pub axes-same : (m : PredictorMeaning) (q : ReadingMeaning) (n a a′ : ℕ) (p : Rest) (r : Result Rest Refusal) → a ≡ a′ → r ≡ pastOf (axesAt m q n a p) → pastOf (axesAt m q n a′ p) ≡ r
 axes-same m q n a a′ p r e h = subst (λ (x : ℕ). pastOf (axesAt m q n x p) ≡ r) e (sym h)
-
-pub refused : {P : Type 0} (k : KindMeaning P) (r : Result Panel Refusal) (e : Refusal) (old : List P) → r ≡ Err e → _≡_ {A = Result ℕ Refusal × List P} (Err e, old) (filled k r old)
-refused k r e old h = sym (ap (λ (x : Result Panel Refusal). filled k x old) h)

@@ -4,18 +4,17 @@ use mathlib.Core.List.{List}
 use mathlib.Core.Logic.{_⊎_, inl, inr, ⊎-elim}
 use Prim.Native.Nat.{ℕ, zero, suc, _+_}
 use native.Mathlib.Omega.{arith}
-use lib.ListN.{length, drop}
+use lib.ListN.{drop}
 use Rattle.std.specs.declared.result.Result.{Result}
 use Rattle.std.specs.declared.result.Result.the-variants.{Ok, Err}
 use Rattle.std.proofs.shelf.Lists.{drop-drop}
 use Rattle.refusal.specs.declared.Refusal.{Refusal}
-use Rattle.kinds.specs.Kind.{KindMeaning}
 use Rattle.predict.specs.Predictor.{PredictorMeaning}
 use Rattle.pack.specs.Packing.{ReadingMeaning}
 use Rattle.panel.specs.Panel.{Axis, Panel}
 use Rattle.panel.specs.Judging.{Rest, andThen, headAt, endAt, axesAt, judged}
-use Rattle.panel.specs.Placed.{filled, loadOf}
-use Rattle.load.specs.Faults.{Due, header, range, end, Sound, faults, after, axesDue, bytesOf, Stands, begins, passes, First-fault, Read-through, Exactly, Judged-by-the-first-fault}
+use Rattle.load.specs.Steps.{countOf, Answers}
+use Rattle.load.specs.Faults.{Due, header, range, end, Sound, faults, after, axesDue, bytesOf, Stands, begins, passes, First-fault, Read-through, Judged-by-the-first-fault}
 use Rattle.load.proofs.Undo.{voidOf}
 use Rattle.load.proofs.Firsts.{sound-good, least-told, Found, sound-or-found}
 use Rattle.load.proofs.Left.{ended, axesLeft, left, beyond, piece-left, rising}
@@ -98,22 +97,21 @@ module _ (m : PredictorMeaning) (q : ReadingMeaning) (axes room : ℕ) (file : L
     (λ x. accepted-only (x .0) (x .1) reaches, accepted-so),
   )
 
--- what a load answers is so too
-module _ {P : Type 0} (k : KindMeaning P) (m : PredictorMeaning) (q : ReadingMeaning) (file : List ℕ) (old : List P) where
-  filled-err : (r : Result Panel Refusal) (e : Refusal) → Exactly (filled k r old .0 ≡ Err e) (r ≡ Err e)
-  filled-err (Ok x) e = (λ h. let z : _≡_ {A = ℕ} 0 1 = cc in absurd (omega arith), λ h. let z : _≡_ {A = ℕ} 0 1 = cc in absurd (omega arith))
-  filled-err (Err d) e = (λ h. let w : d ≡ e = cc in ap Err w, λ h. let w : d ≡ e = cc in ap Err w)
+-- and so is an answer that tells how many vertices there are, or why not
+module _ (m : PredictorMeaning) (q : ReadingMeaning) (axes room : ℕ) (file : List ℕ) where
+  count-ok : (j : Result Panel Refusal) (n : ℕ) → countOf j ≡ Ok n → (x : Panel) × (j ≡ Ok x)
+  count-ok (Ok x) n h = (x, refl)
+  count-ok (Err d) n h = let z : _≡_ {A = ℕ} 0 1 = cc in absurd (omega arith)
 
-  filled-ok : (r : Result Panel Refusal) → Exactly ((n : ℕ) × (filled k r old .0 ≡ Ok n)) ((x : Panel) × (r ≡ Ok x))
-  filled-ok (Ok x) = (λ h. (x, refl), λ h. (x .count, refl))
-  filled-ok (Err d) = (λ h. (let e = h .1 in let z : _≡_ {A = ℕ} 0 1 = cc in absurd (omega arith)), λ h. (let e = h .1 in let z : _≡_ {A = ℕ} 0 1 = cc in absurd (omega arith)))
-
-  pub loaded-so : (r : Result ℕ Refusal) (out : List P) → _≡_ {A = Result ℕ Refusal × List P} (r, out) (loadOf k m q file old) → Judged-by-the-first-fault m q (k .axes) (length old) file r
-  loaded-so r out does =
-      let j = judged m q (k .axes) (length old) file in
-      let so = judged-so m q (k .axes) (length old) file in
-      let is : filled k j old .0 ≡ r = sym (ap (λ (x : Result ℕ Refusal × List P). x .0) does) in
-      subst (Judged-by-the-first-fault m q (k .axes) (length old) file) is (
-        λ e. (λ h. so .0 e .0 (filled-err j e .0 h), λ f. filled-err j e .1 (so .0 e .1 f)),
-        (λ h. so .1 .0 (filled-ok j .0 h), λ s. filled-ok j .1 (so .1 .1 s)),
+  pub answers-so : (r : Result ℕ Refusal) → Answers (judged m q axes room file) r → Judged-by-the-first-fault m q axes room file r
+  answers-so (Ok n) h =
+      let so = judged-so m q axes room file in
+      let x = count-ok (judged m q axes room file) n h in (
+        λ e. (λ b. (let z : _≡_ {A = ℕ} 0 1 = cc in absurd (omega arith)), λ f. (let y = x .1 in let b = so .0 e .1 f in let z : _≡_ {A = ℕ} 0 1 = cc in absurd (omega arith))),
+        (λ y. so .1 .0 x, λ s. (n, refl)),
+      )
+  answers-so (Err d) h =
+      let so = judged-so m q axes room file in (
+        λ e. (λ b. so .0 e .0 (let w : d ≡ e = cc in h ∙ ap Err w), λ f. (let b = so .0 e .1 f in let w : d ≡ e = cc in ap Err w)),
+        (λ y. (let b = y .1 in let z : _≡_ {A = ℕ} 0 1 = cc in absurd (omega arith)), λ s. (let b = so .1 .1 s .1 in let z : _≡_ {A = ℕ} 0 1 = cc in absurd (omega arith))),
       )

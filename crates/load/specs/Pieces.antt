@@ -22,6 +22,7 @@ pub data Told : Type 0 where
   body : (bytes : List ℕ) (offset : ℕ) → Told
   end : Told
 
+-- with the bytes themselves in place of a reference to them
 abbrev pub told : Piece → Told
 told (Header a p q n) = header a p q n
 told (Range b l u) = range b l u
@@ -33,6 +34,7 @@ told End = end
 abbrev pub Taken : Type 0
 Taken = Result (Told × List ℕ) Refusal
 
+-- an answer of the reader, by what it says
 abbrev pub plain : Result (Piece × RefT (List ℕ)) Refusal → Taken
 plain (Ok x) = Ok (told (x .0), x .1 .now)
 plain (Err e) = Err e

@@ -1,4 +1,5 @@
 -- What the steps of judging a file answer.
+use mathlib.Core.Path.{_≡_}
 use mathlib.Core.Bool.{cond}
 use mathlib.Core.List.{List}
 use Prim.Native.Nat.{ℕ, _+_}
@@ -11,6 +12,7 @@ use Rattle.refusal.specs.declared.Why.the-variants.{Truncated}
 use Rattle.refusal.specs.declared.Refusal.{Refusal}
 use Rattle.range.specs.Scale.{Scale, scaleOf}
 use Rattle.range.specs.declared.range.Range.{Range}
+use Rattle.panel.specs.Panel.{Panel}
 use Rattle.panel.specs.Judging.{refuse, andThen, lengthAt, Rest}
 
 -- a range by its scale
@@ -40,3 +42,13 @@ pastOf (Err e) = Err e
 abbrev pub from : List ℕ → Result ℕ Refusal → Result Rest Refusal
 from file (Ok at) = Ok (drop at file, at)
 from file (Err e) = Err e
+
+-- how many vertices a file has
+abbrev pub countOf : Result Panel Refusal → Result ℕ Refusal
+countOf (Ok x) = Ok (x .count)
+countOf (Err e) = Err e
+
+-- what judging a whole file answers: how many vertices it has, or why it is refused
+abbrev pub Answers : Result Panel Refusal → Result ℕ Refusal → Type 0
+Answers judged (Ok n) = countOf judged ≡ Ok n
+Answers judged (Err e) = judged ≡ Err e

@@ -2,6 +2,7 @@
 use crate::piece;
 use crate::piece::Piece;
 use crate::piece::refused;
+use kinds::PointKind;
 use pack::Packing;
 use predict::Before;
 use predict::Predictor;
@@ -15,17 +16,35 @@ ghost use lib.Ieee.{binary32, ofBits};
 ghost use lib.ListN.{length, drop};
 ghost use Rattle.std.specs.Vec.{made};
 ghost use Rattle.pack.specs.Packing.{Counted};
-ghost use Rattle.panel.specs.Judging.{headAt, rangeAt, endAt, axesAt, scaledBy, counted as countedIn};
-ghost use Rattle.load.specs.Steps.{byScale, byBytes, announcedAt, pastOf, from};
+ghost use Rattle.panel.specs.Judging.{headAt, rangeAt, endAt, axesAt, scaledBy, judged, counted as countedIn};
+ghost use Rattle.load.specs.Steps.{byScale, byBytes, announcedAt, pastOf, from, Answers};
+ghost use Rattle.load.specs.Faults.{Judged-by-the-first-fault};
 
-// N: the vertex count of a file for so many axes, this predictor and this packing, and a point list of so much room.
-pub fn head(
+// A whole file, for a point list of so much room: how many vertices it has.
+pub fn file<K: PointKind, P: Predictor, Q: Packing>(
     file: &[u8],
-    axes: usize,
-    predictor: u8,
-    packing: u8,
     room: usize,
 ) -> Result<usize, Refusal>
+    ensures value { λ r. ⌜ Answers (judged (P·Predictor .means) (Q·Packing .means .reading) (K·PointKind .kind .axes) room (now (file .entry))) r ⌝ }
+    ensures first { λ r. ⌜ Judged-by-the-first-fault (P·Predictor .means) (Q·Packing .means .reading) (K·PointKind .kind .axes) room (now (file .entry)) r ⌝ }
+{
+    let count = K::axis_count();
+    let n = match head(file, count, P::tag(), Q::tag(), room) {
+        Ok(n) => n,
+        Err(e) => return Err(e),
+    };
+    let at = match axes::<P, Q>(file, count, n) {
+        Ok(at) => at,
+        Err(e) => return Err(e),
+    };
+    match end_at(&file[at..], at) {
+        Ok(()) => Ok(n),
+        Err(e) => Err(e),
+    }
+}
+
+// N: the vertex count of a file for so many axes, this predictor and this packing, and a point list of so much room.
+fn head(file: &[u8], axes: usize, predictor: u8, packing: u8, room: usize) -> Result<usize, Refusal>
     ensures value { λ r. ⌜ r ≡ headAt axes predictor packing room (now (file .entry)) ⌝ }
     ensures long { λ r. ⌜ made r (λ _. 8 ≤ length (now (file .entry))) ⌝ }
     ensures count { λ r. ⌜ made r (λ n. Counted n × (n ≤ room)) ⌝ }
@@ -112,7 +131,7 @@ pub fn body_at<'a>(rest: &'a [u8], at: usize) -> Result<(&'a [u8], usize), Refus
 }
 
 // Q, V and a body for each axis: where they end.
-pub fn axes<P: Predictor, Q: Packing>(file: &[u8], count: usize, n: usize) -> Result<usize, Refusal>
+fn axes<P: Predictor, Q: Packing>(file: &[u8], count: usize, n: usize) -> Result<usize, Refusal>
     requires counted { ⌜ Counted n ⌝ }
     requires headed { ⌜ 8 ≤ length (now file) ⌝ }
     ensures value { λ r. ⌜ from (now (file .entry)) r ≡ pastOf (axesAt (P·Predictor .means) (Q·Packing .means .reading) n count (drop 8 (now (file .entry)), 8)) ⌝ }
@@ -145,7 +164,7 @@ pub fn axes<P: Predictor, Q: Packing>(file: &[u8], count: usize, n: usize) -> Re
 }
 
 // E, and nothing after it.
-pub fn end_at(rest: &[u8], at: usize) -> Result<(), Refusal>
+fn end_at(rest: &[u8], at: usize) -> Result<(), Refusal>
     requires { ⌜ at + 1 < 2 ^ 64 ⌝ }
     ensures { λ r. ⌜ r ≡ endAt at (now (rest .entry)) ⌝ }
 {

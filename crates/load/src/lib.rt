@@ -24,18 +24,10 @@ pub fn load<K: PointKind + Copy, P: Predictor, Q: Packing>(
     ensures does { λ r. ⌜ _≡_ {A = Result ℕ Refusal × List K} (r, now (points .exit)) (loadOf (K·PointKind .kind) (P·Predictor .means) (Q·Packing .means .reading) (now (file .entry)) (now (points .entry))) ⌝ }
     ensures first { λ r. ⌜ Judged-by-the-first-fault (P·Predictor .means) (Q·Packing .means .reading) (K·PointKind .kind .axes) (length (now (points .entry))) (now (file .entry)) r ⌝ }
 {
-    let axes = K::axis_count();
-    let n = match judge::head(file, axes, P::tag(), Q::tag(), points.len()) {
+    let n = match judge::file::<K, P, Q>(file, points.len()) {
         Ok(n) => n,
         Err(e) => return Err(e),
     };
-    let at = match judge::axes::<P, Q>(file, axes, n) {
-        Ok(at) => at,
-        Err(e) => return Err(e),
-    };
-    if let Err(e) = judge::end_at(&file[at..], at) {
-        return Err(e);
-    }
     place::place::<K, P, Q>(file, n, points);
     Ok(n)
 }

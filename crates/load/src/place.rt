@@ -9,17 +9,35 @@ use predict::restored;
 use range::range::Range;
 ghost use mathlib.Core.Path.{_≡_};
 ghost use mathlib.Core.Bool.{true};
-ghost use Prim.Native.Nat.{_≤_};
+ghost use mathlib.Core.List.{List};
+ghost use Prim.Native.Nat.{ℕ, _≤_};
 ghost use lib.ListN.{length, drop};
+ghost use Rattle.std.specs.declared.result.Result.{Result};
+ghost use Rattle.std.specs.declared.result.Result.the-variants.{Ok};
 ghost use Rattle.std.specs.Results.{isOk};
+ghost use Rattle.refusal.specs.declared.Refusal.{Refusal};
 ghost use Rattle.predict.specs.Residues.{values};
 ghost use Rattle.pack.specs.Packing.{Counted, Accepted, listed};
 ghost use Rattle.range.specs.Scale.{scaleOf, isCode, placeIn};
-ghost use Rattle.panel.specs.Judging.{axesAt, allCodes};
+ghost use Rattle.panel.specs.Judging.{axesAt, allCodes, judged};
+ghost use Rattle.panel.specs.Placed.{loadOf};
+ghost use Rattle.load.specs.Steps.{countOf};
 ghost use Rattle.load.specs.Filling.{moved, fillOn, fillBy};
 
-// The vertices of a file whose axes are accepted.
+// The vertices of a file that is accepted.
 pub fn place<K: PointKind + Copy, P: Predictor, Q: Packing>(file: &[u8], n: usize, points: &mut [K])
+    requires { ⌜ countOf (judged (P·Predictor .means) (Q·Packing .means .reading) (K·PointKind .kind .axes) (length (now points)) (now file)) ≡ Ok n ⌝ }
+    ensures { λ _. ⌜ _≡_ {A = Result ℕ Refusal × List K} (Ok n, now (points .exit)) (loadOf (K·PointKind .kind) (P·Predictor .means) (Q·Packing .means .reading) (now (file .entry)) (now (points .entry))) ⌝ }
+{
+    place_axes::<K, P, Q>(file, n, points);
+}
+
+// The vertices on each axis of a file whose axes are accepted.
+fn place_axes<K: PointKind + Copy, P: Predictor, Q: Packing>(
+    file: &[u8],
+    n: usize,
+    points: &mut [K],
+)
     requires counted { ⌜ Counted n ⌝ }
     requires headed { ⌜ 8 ≤ length (now file) ⌝ }
     requires room { ⌜ n ≤ length (now points) ⌝ }

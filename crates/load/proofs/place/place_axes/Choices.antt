@@ -5,7 +5,7 @@ use lib.ListN.{length, drop}
 use Rattle.std.specs.Results.{isOk}
 use Rattle.panel.specs.Judging.{axesAt}
 use Rattle.load.specs.Filling.{fillBy}
-use Rattle.load.proofs.place.place.Given as given
+use Rattle.load.proofs.place.place_axes.Given as given
 
 -- the points, once filled by the axes that are left, are the same
 abbrev pub Inv-loop-axis : given.InvT-loop-axis
