@@ -17,8 +17,7 @@ use Rattle.predict.specs.Predictor.{PredictorMeaning}
 use Rattle.pack.specs.Packing.{ReadingMeaning}
 use Rattle.law.specs.declared.Stage.{Stage}
 use Rattle.law.specs.declared.Stage.the-variants.{Empty, Loaded, Split, Closed}
-use Rattle.law.specs.Program.{finish}
-use Rattle.law.specs.Calls.{Call, load, split, cut, close, State, Answer, one, two, no, Outcome, outcome, new, append, refused, finished, close-at, step}
+use Rattle.law.specs.Calls.{Call, load, split, cut, close, State, Answer, one, two, no, Outcome, outcome, new, refused, finished, close-at, step}
 use Rattle.law.specs.Runs.{run, accepted, noted}
 use Rattle.law.specs.Law.{MisplacesNone, No-run-misplaces-a-panel}
 use Rattle.bench.specs.States.{counted}

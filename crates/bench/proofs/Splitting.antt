@@ -1,21 +1,20 @@
 -- A split that is refused leaves the bench as it stood.
-use mathlib.Core.Path.{_≡_, refl, sym, ap, subst, _∙_}
-use mathlib.Core.Bool.{true, cond}
+use mathlib.Core.Path.{_≡_, refl, sym, ap, _∙_}
+use mathlib.Core.Bool.{true}
 use mathlib.Core.List.{List}
 use Prim.Native.Nat.{ℕ}
 use native.Mathlib.Omega.{arith}
-use lib.Dec.{ltb}
 use Rattle.std.specs.declared.option.Option.{Option}
 use Rattle.std.specs.declared.option.Option.the-variants.{Some, None}
 use Rattle.std.specs.declared.result.Result.{Result}
-use Rattle.std.specs.declared.result.Result.the-variants.{Ok, Err}
+use Rattle.std.specs.declared.result.Result.the-variants.{Err}
 use Rattle.std.proofs.shelf.Tests.{cond-true}
 use Rattle.refusal.specs.declared.Why.{Why}
 use Rattle.kinds.specs.Kind.{KindMeaning}
-use Rattle.seam.specs.Seam.{proper-count, whyNot, whyNotAny, splitBy, splitOf}
+use Rattle.seam.specs.Seam.{proper-count, whyNotAny, splitBy, splitOf}
 use Rattle.law.specs.declared.Stage.{Stage}
 use Rattle.law.specs.declared.Stage.the-variants.{Empty, Loaded, Split, Closed}
-use Rattle.law.specs.Calls.{State, Outcome, outcome, no, two, tolerance, split-by, split-at}
+use Rattle.law.specs.Calls.{State, outcome, no, split-by, split-at}
 use Rattle.bench.specs.Stages.{stands}
 use Rattle.bench.specs.States.{plain}
 

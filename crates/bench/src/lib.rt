@@ -1,7 +1,8 @@
 // The cutting bench: it loads panel files, splits their seams, and writes cut programs through a knife.
 ghost use mathlib.Core.Path.{_≡_};
 ghost use mathlib.Core.List.{[], _∷_};
-ghost use lib.ListN.{take};
+ghost use Prim.Native.Nat.{_≤_};
+ghost use lib.ListN.{length, take};
 ghost use Rattle.std.specs.Vec.{made};
 ghost use Rattle.law.specs.Calls.{new as untouched, load as Load, split as Split, cut as Cut, close as Close};
 ghost use Rattle.law.specs.Law.{MisplacesNone, No-run-misplaces-a-panel};
@@ -27,6 +28,7 @@ pub fn cut_panel<K: PointKind + Copy, P: Predictor, Q: Packing>(
 ) -> Result<usize, Refusal>
     ensures does { λ r. ⌜ onward (K·PointKind .kind) (untouched (now (points .entry)) (now (marks .entry)) (now (program .entry))) (Load (P·Predictor .means) (Q·Packing .means .reading) (now (file .entry))) (Split tolerance ∷ Cut ∷ Close ∷ []) ≡ sight (counted r) (now (points .exit)) (now (marks .exit)) (now (program .exit)) ⌝ }
     ensures placed { λ r. ⌜ made r (λ n. MisplacesNone (K·PointKind .kind) (Load (P·Predictor .means) (Q·Packing .means .reading) (now (file .entry)) ∷ Split tolerance ∷ Cut ∷ Close ∷ []) (take n (now (program .exit)))) ⌝ }
+    ensures within { λ r. ⌜ made r (λ n. n ≤ length (now (program .exit))) ⌝ }
     ensures never { λ _. ⌜ No-run-misplaces-a-panel (K·PointKind .kind) ⌝ }
 {
     no_run_misplaces::<K>();

@@ -41,9 +41,7 @@ fn main(rt: LibcRuntime) -> Result<(), AnyError> {
     );
     match answer {
         Ok(length) => {
-            if length <= program.len() {
-                out.write_all(&program[0..length])?;
-            }
+            out.write_all(&program[0..length])?;
             Ok(())
         }
         Err(refusal) => {

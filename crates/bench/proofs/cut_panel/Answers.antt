@@ -17,6 +17,7 @@ returns-in-Break-load g c =
       does = after-load (g .K·PointKind .kind) (g .P·Predictor .means) (g .Q·Packing .means .reading) (c .args .file .now) (c .args .tolerance) ps ms bs _ (c .new-bench .ensures ps ms bs) s1 (no (c .in-Break-load .field-0 .0)) (c .in-Break-load .ensures tt ms bs)
           ∙ ap (λ r. sight r (s1 .points) ms bs) (exit (c .from-residual .result) (p .0) (c .in-Break-load .field-0 .0) (p .1) (p .2));
       placed = made-from-err (c .from-residual .result) _ (c .from-residual .ensures .0);
+      within = made-from-err (c .from-residual .result) _ (c .from-residual .ensures .0);
       never = c .no-run-misplaces .ensures .never;
     }
 
@@ -32,6 +33,7 @@ returns-in-Break-split g c =
       does = after-split (g .K·PointKind .kind) (g .P·Predictor .means) (g .Q·Packing .means .reading) (c .args .file .now) (c .args .tolerance) ps ms bs _ (c .new-bench .ensures ps ms bs) s1 (c .in-Continue-load .field-0) (c .in-Continue-load .ensures tt ms bs) s2 (no (c .in-Break-split .field-0 .0)) (c .in-Break-split .ensures tt bs)
           ∙ ap (λ r. sight r (s2 .points) (s2 .marks) bs) (exit (c .from-residual-in-Break-split .result) (p .0) (c .in-Break-split .field-0 .0) (p .1) (p .2));
       placed = made-from-err (c .from-residual-in-Break-split .result) _ (c .from-residual-in-Break-split .ensures .0);
+      within = made-from-err (c .from-residual-in-Break-split .result) _ (c .from-residual-in-Break-split .ensures .0);
       never = c .no-run-misplaces .ensures .never;
     }
 
@@ -49,6 +51,7 @@ returns-in-Break-cut g c =
       does = after-cut (g .K·PointKind .kind) (g .P·Predictor .means) (g .Q·Packing .means .reading) (c .args .file .now) (c .args .tolerance) ps ms bs _ (c .new-bench .ensures ps ms bs) s1 (c .in-Continue-load .field-0) (c .in-Continue-load .ensures tt ms bs) s2 (counts .0) (counts .1) (c .in-Continue-split .ensures tt bs) s3 (no (c .in-Break-cut .field-0 .0)) (c .in-Break-cut .ensures tt)
           ∙ ap (λ r. sight r (s3 .points) (s3 .marks) (s3 .program)) (exit (c .from-residual-in-Break-cut .result) (p .0) (c .in-Break-cut .field-0 .0) (p .1) (p .2));
       placed = made-from-err (c .from-residual-in-Break-cut .result) _ (c .from-residual-in-Break-cut .ensures .0);
+      within = made-from-err (c .from-residual-in-Break-cut .result) _ (c .from-residual-in-Break-cut .ensures .0);
       never = c .no-run-misplaces .ensures .never;
     }
 
@@ -73,5 +76,6 @@ returns g c =
     record {
       does = after-close k m q (c .args .file .now) (c .args .tolerance) ps ms bs _ begins s1 _ loads s2 (counts .0) (counts .1) splits s3 _ cuts s4 (counted (c .close .result)) closes;
       placed = placed k m q (c .args .file .now) (c .args .tolerance) ps ms bs _ begins s1 _ loads s2 (counts .0) (counts .1) splits s3 _ cuts s4 (c .no-run-misplaces .ensures .never) (c .close .result) closes;
+      within = c .close .ensures .within;
       never = c .no-run-misplaces .ensures .never;
     }

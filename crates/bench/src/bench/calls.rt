@@ -1,7 +1,9 @@
 // The calls on a bench. Stage and call together decide what happens.
 ghost use mathlib.Core.Path.{_≡_};
 ghost use mathlib.Core.List.{List};
-ghost use Prim.Native.Nat.{ℕ};
+ghost use Prim.Native.Nat.{ℕ, _≤_};
+ghost use lib.ListN.{length};
+ghost use Rattle.std.specs.Vec.{made};
 ghost use Rattle.law.specs.Calls.{step, outcome, new as untouched, tolerance as toleranceOf, load as Load, split as Split, cut as Cut, close as Close};
 ghost use Rattle.law.specs.Law.{No-run-misplaces-a-panel};
 ghost use Rattle.bench.specs.States.{state, counted, counted-twice, plain};
@@ -142,6 +144,7 @@ impl<K: PointKind> Bench<K> {
     // Appends the finish. The bench takes no call after it.
     pub fn close(&mut self, program: &mut [u8]) -> Result<usize, Refusal>
         ensures does { λ r. ⌜ ((points : List K) (marks : List ℕ) → step (K·PointKind .kind) (state (now (self .entry)) points marks (now (program .entry))) Close ≡ outcome (state (now (self .exit)) points marks (now (program .exit))) (counted r)) ⌝ }
+        ensures within { λ r. ⌜ made r (λ n. n ≤ length (now (program .exit))) ⌝ }
         ensures never { λ _. ⌜ No-run-misplaces-a-panel (K·PointKind .kind) ⌝ }
     {
         no_run_misplaces::<K>();
@@ -153,6 +156,7 @@ impl<K: PointKind> Bench<K> {
                     self.size = size;
                     Ok(size)
                 }
+                // the knife has written nothing, and is laid aside
                 Err((why, knife)) => {
                     let _ = knife.rest();
                     Err(refusal(why))

@@ -1,9 +1,9 @@
-use mathlib.Core.Path.{_≡_, refl, sym, ap, _∙_}
+use mathlib.Core.Path.{refl, sym, ap, _∙_}
 use mathlib.Core.List.{_++_}
 use Prim.Native.Nat.{_<_}
 use native.Mathlib.Omega.{arith}
 use borrow.Author.Tests.{eqb-true, eqb-false}
-use lib.ListN.{length, getD}
+use lib.ListN.{length}
 use Rattle.law.specs.Program.{chainBytes, through, steps, travel, stroke, lower, overwritten}
 use Rattle.law.specs.Calls.{kept}
 use Rattle.bench.proofs.Chains.{rest, rest-kept, rest-left, rest-end, rest-kept-length, chain-first, chain-length}
