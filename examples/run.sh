@@ -6,7 +6,7 @@ tail -n 1 target-check.log
 rm -f target-check.log
 panel=${1:-examples/luff.panel}
 out=target/$(basename "$panel" .panel).cut
-echo "panel:   $panel, $(wc -c <"$panel" | tr -d ' ') bytes, $(od -An -tu1 -j4 -N2 "$panel" | awk '{ print $1 + 256 * $2 }') vertices"
+echo "panel:   $panel, $(wc -c <"$panel" | tr -d ' ') bytes, $(od -An -tu1 -j 4 -N 2 "$panel" | awk '{ print $1 + 256 * $2 }') vertices"
 target/bin/panelcut <"$panel" >"$out"
 ended=$?
 if [ "$ended" -ne 0 ]; then

@@ -72,25 +72,25 @@ module _ {P : Type 0} (k : KindMeaning P) where
       pub after-load : (s1 : State P) (r : Answer) → step k s0 (load m q file) ≡ outcome s1 r → Whole ≡ On s1 r (split t) (cut ∷ close ∷ [])
       after-load s1 r is = ap (λ s. onward k s (load m q file) (split t ∷ cut ∷ close ∷ [])) (sym begins) ∙ next s0 s1 r (load m q file) (split t) (cut ∷ close ∷ []) is
 
-      module _ (s1 : State P) (n1 : ℕ) (loads : step k s0 (load m q file) ≡ outcome s1 (one n1)) where
+      module _ (s1 : State P) (loadsTo : ℕ) (loads : step k s0 (load m q file) ≡ outcome s1 (one loadsTo)) where
         pub after-split : (s2 : State P) (r : Answer) → step k s1 (split t) ≡ outcome s2 r → Whole ≡ On s2 r cut (close ∷ [])
-        after-split s2 r is = after-load s1 (one n1) loads ∙ next s1 s2 r (split t) cut (close ∷ []) is
+        after-split s2 r is = after-load s1 (one loadsTo) loads ∙ next s1 s2 r (split t) cut (close ∷ []) is
 
         module _ (s2 : State P) (kept waits : ℕ) (splits : step k s1 (split t) ≡ outcome s2 (two kept waits)) where
           pub after-cut : (s3 : State P) (r : Answer) → step k s2 cut ≡ outcome s3 r → Whole ≡ On s3 r close []
           after-cut s3 r is = after-split s2 (two kept waits) splits ∙ next s2 s3 r cut close [] is
 
-          module _ (s3 : State P) (n3 : ℕ) (cuts : step k s2 cut ≡ outcome s3 (one n3)) (s4 : State P) where
+          module _ (s3 : State P) (cutsTo : ℕ) (cuts : step k s2 cut ≡ outcome s3 (one cutsTo)) (s4 : State P) where
             pub after-close : (r : Answer) → step k s3 close ≡ outcome s4 r → Whole ≡ sight r (s4 .points) (s4 .marks) (s4 .program)
-            after-close r is = after-cut s3 (one n3) cuts ∙ ap (λ (o : Outcome P). seen o) is
+            after-close r is = after-cut s3 (one cutsTo) cuts ∙ ap (λ (o : Outcome P). seen o) is
 
-            runs : (n4 : ℕ) → step k s3 close ≡ outcome s4 (one n4) → run k s0 Calls ≡ s4
-            runs n4 is =
+            runs : (closesTo : ℕ) → step k s3 close ≡ outcome s4 (one closesTo) → run k s0 Calls ≡ s4
+            runs closesTo is =
                 ap (λ (o : Outcome P). run k (o .after) (split t ∷ cut ∷ close ∷ [])) loads ∙ ap (λ (o : Outcome P). run k (o .after) (cut ∷ close ∷ [])) splits
                 ∙ ap (λ (o : Outcome P). run k (o .after) (close ∷ [])) cuts ∙ ap (λ (o : Outcome P). o .after) is
 
-            accepts : (n4 : ℕ) → step k s3 close ≡ outcome s4 (one n4) → accepted k s0 Calls ≡ Calls
-            accepts n4 is =
+            accepts : (closesTo : ℕ) → step k s3 close ≡ outcome s4 (one closesTo) → accepted k s0 Calls ≡ Calls
+            accepts closesTo is =
                 let adds : Call → List Call → Outcome P → List Call = λ c cs o. noted k c (o .answer) (accepted k (o .after) cs) in
                 ap (adds (load m q file) (split t ∷ cut ∷ close ∷ [])) loads ∙ ap (λ o. load m q file ∷ adds (split t) (cut ∷ close ∷ []) o) splits
                 ∙ ap (λ o. load m q file ∷ split t ∷ adds cut (close ∷ []) o) cuts ∙ ap (λ o. load m q file ∷ split t ∷ cut ∷ adds close [] o) is

@@ -87,10 +87,10 @@ module _ {P : Type 0} (k : KindMeaning P) (t : ℕ) (x : Panel) (some : 2 ≤ x 
         let vs = told k (placed k x) in
         let o1 : ones i ms ≡ 1 + ones p ms = ones-same (suc p) i ms (omega arith) (λ y a b. none y (omega arith) (omega arith)) ∙ ones-one p ms ep in
         let o2 : ones q ms ≡ ones i ms = ones-same i q ms iq (λ y a b. none y (omega arith) (omega arith)) in
-        let n1 : ones i ms - 1 ≡ ones p ms = omega arith in
-        let n2 : suc (ones i ms - 1) ≡ ones q ms = omega arith in
-        let A : on (beginOf c (ones i ms - 1)) ≡ at vs p = ap (λ (n : ℕ). on (beginOf c n)) n1 ∙ stands-told p (omega arith) ep in
-        let B : on (endOf c (ones i ms - 1)) ≡ at vs q = ap (λ (n : ℕ). on (getD (c .from ∷ c .strokes) n [])) n2 ∙ stands-told q qn eq in
+        let passed : ones i ms - 1 ≡ ones p ms = omega arith in
+        let reached : suc (ones i ms - 1) ≡ ones q ms = omega arith in
+        let A : on (beginOf c (ones i ms - 1)) ≡ at vs p = ap (λ (n : ℕ). on (beginOf c n)) passed ∙ stands-told p (omega arith) ep in
+        let B : on (endOf c (ones i ms - 1)) ≡ at vs q = ap (λ (n : ℕ). on (getD (c .from ∷ c .strokes) n [])) reached ∙ stands-told q qn eq in
         let real : ones i ms - 1 < length (c .strokes) = omega (arith, count-strokes, ones-grows (suc q) (x .count) ms (omega arith), ones-one q ms eq) in
         (real, subst (λ (a : Vertex). Along t (at vs i) a (on (endOf c (ones i ms - 1)))) (sym A) (subst (λ (b : Vertex). Along t (at vs i) (at vs p) b) (sym B) (lies (cases-eq i q))))
       where

@@ -1,4 +1,8 @@
 // The pieces of a panel file, each taken from the front of what is left of it.
+use panel::pieces::END_LETTER;
+use panel::pieces::HEAD_LETTER;
+use panel::pieces::LENGTH_LETTER;
+use panel::pieces::RANGE_LETTER;
 use refusal::Refusal;
 use refusal::Why;
 ghost use mathlib.Core.Path.{_≡_};
@@ -42,8 +46,8 @@ pub fn header<'a>(rest: &'a [u8], at: usize) -> Result<(Piece<'a>, &'a [u8]), Re
     ensures { λ r. ⌜ plain r ≡ headerFrom at (now (rest .entry)) ⌝ }
 {
     match rest {
-        [b'N', axes, predictor, packing, n0, n1, n2, n3, rest @ ..] => {
-            let count = u32::from_le_bytes([*n0, *n1, *n2, *n3]);
+        [HEAD_LETTER, axes, predictor, packing, a, b, c, d, rest @ ..] => {
+            let count = u32::from_le_bytes([*a, *b, *c, *d]);
             Ok((
                 Piece::Header {
                     axes: *axes,
@@ -63,7 +67,7 @@ pub fn range<'a>(rest: &'a [u8], at: usize) -> Result<(Piece<'a>, &'a [u8]), Ref
     ensures { λ r. ⌜ plain r ≡ rangeFrom at (now (rest .entry)) ⌝ }
 {
     match rest {
-        [b'Q', bits, l0, l1, l2, l3, u0, u1, u2, u3, rest @ ..] => {
+        [RANGE_LETTER, bits, l0, l1, l2, l3, u0, u1, u2, u3, rest @ ..] => {
             let lower = u32::from_le_bytes([*l0, *l1, *l2, *l3]);
             let upper = u32::from_le_bytes([*u0, *u1, *u2, *u3]);
             Ok((
@@ -84,9 +88,9 @@ pub fn length<'a>(rest: &'a [u8], at: usize) -> Result<(Piece<'a>, &'a [u8]), Re
     ensures { λ r. ⌜ plain r ≡ lengthFrom at (now (rest .entry)) ⌝ }
 {
     match rest {
-        [b'V', n0, n1, n2, n3, rest @ ..] => {
+        [LENGTH_LETTER, a, b, c, d, rest @ ..] => {
             Ok((
-                Piece::Length(u32::from_le_bytes([*n0, *n1, *n2, *n3])),
+                Piece::Length(u32::from_le_bytes([*a, *b, *c, *d])),
                 rest,
             ))
         }
@@ -109,7 +113,7 @@ pub fn end<'a>(rest: &'a [u8], at: usize) -> Result<(Piece<'a>, &'a [u8]), Refus
     ensures { λ r. ⌜ plain r ≡ endFrom at (now (rest .entry)) ⌝ }
 {
     match rest {
-        [b'E', rest @ ..] => Ok((Piece::End, rest)),
+        [END_LETTER, rest @ ..] => Ok((Piece::End, rest)),
         [_, ..] => Err(refused(Why::Letter, at)),
         [] => Err(refused(Why::Truncated, at)),
     }
