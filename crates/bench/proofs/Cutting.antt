@@ -13,7 +13,8 @@ use Rattle.kinds.specs.Kind.{KindMeaning}
 use Rattle.seam.specs.Ones.{ones}
 use Rattle.law.specs.declared.Stage.{Stage}
 use Rattle.law.specs.declared.Stage.the-variants.{Split}
-use Rattle.law.specs.Program.{chainBytes, through, overwritten}
+use Rattle.panel.specs.Bytes.{overwritten}
+use Rattle.law.specs.Program.{chainBytes, through}
 use Rattle.law.specs.Calls.{State, Outcome, outcome, refused, one, cut, kept, drawn, why-cut, cut-by, cut-at, step}
 
 module _ {P : Type 0} (k : KindMeaning P) (s : State P) where

@@ -13,10 +13,10 @@ use Rattle.std.specs.Iters.{counting}
 use Rattle.std.proofs.shelf.Lists.{take-append-drop}
 use Rattle.std.proofs.shelf.Counted.{map-counting-more, length-map-counting}
 use Rattle.kinds.specs.Kind.{KindMeaning}
-use Rattle.panel.specs.Bytes.{overwritten as laid}
 use Rattle.panel.specs.Words.{le32}
 use Rattle.panel.proofs.Overwriting.{over-part, over-one, over-more}
-use Rattle.law.specs.Program.{overwritten, spelled, steps}
+use Rattle.panel.specs.Bytes.{overwritten}
+use Rattle.law.specs.Program.{spelled, steps}
 use Rattle.law.proofs.Reading.{length-spelled}
 
 -- four bytes for each axis
@@ -31,17 +31,14 @@ pub overwritten-none : (xs : List ℕ) (at : ℕ) → overwritten xs at [] ≡ x
 overwritten-none xs at = rw add-zero (take-append-drop at xs)
 
 pub overwritten-letter : (xs : List ℕ) (at letter : ℕ) → at < length xs → set xs at letter ≡ overwritten xs at (letter ∷ [])
-unfolding laid
 overwritten-letter xs at letter h = over-one xs at letter h
 
 -- ys, and then zs straight after it
 pub overwritten-more : (xs : List ℕ) (at : ℕ) (ys zs : List ℕ) (n : ℕ) → n ≡ at + length ys → n + length zs ≤ length xs → overwritten (overwritten xs at ys) n zs ≡ overwritten xs at (ys ++ zs)
-unfolding laid
 overwritten-more xs at ys zs n e h = over-more xs at ys (omega arith) n zs e
 
 -- one step more, written where the steps before it end
 pub steps-more : (xs now ys : List ℕ) (b i place k : ℕ) (f : ℕ → ℤ) → now ≡ overwritten xs b (spelled (map f (counting 0 i))) → ys ≡ le32 (ofZ w32 (f i)) → place ≡ b + 4 * i → k ≡ 4 → place + 4 ≤ length xs → putMid place k now ys ≡ overwritten xs b (spelled (map f (counting 0 (i + 1))))
-unfolding laid
 steps-more xs now ys b i place k f inv is at four room =
     let one : List ℕ = le32 (ofZ w32 (f i)) in
     let before : List ℕ = spelled (map f (counting 0 i)) in

@@ -7,7 +7,7 @@ use Rattle.std.specs.declared.result.Result.{Result}
 use Rattle.std.specs.declared.result.Result.the-variants.{Ok, Err}
 use Rattle.refusal.specs.declared.Why.{Why}
 use Rattle.refusal.specs.declared.Why.the-variants.{NoSpace}
-use Rattle.law.specs.Program.{overwritten}
+use Rattle.panel.specs.Bytes.{overwritten}
 use Rattle.bench.specs.declared.bench.knife.Raised.{Raised}
 use Rattle.bench.specs.declared.bench.knife.Lowered.{Lowered}
 

@@ -29,7 +29,8 @@ use Rattle.seam.specs.Seam.{ends, treeOf, whyNot, short-list, all-close-by}
 use Rattle.seam.specs.Split.{marked}
 use Rattle.law.specs.declared.Stage.{Stage}
 use Rattle.law.specs.declared.Stage.the-variants.{Empty, Loaded, Split, Closed}
-use Rattle.law.specs.Program.{Chain, chainBytes, programBytes, through, finish, overwritten}
+use Rattle.panel.specs.Bytes.{overwritten}
+use Rattle.law.specs.Program.{Chain, chainBytes, programBytes, through, finish}
 use Rattle.law.specs.Calls.{Call, load, split, cut, close, State, new, Answer, one, two, no, Outcome, tolerance, kept, loaded, load-at, split-by, split-at, drawn, why-cut, cut-by, cut-at, finished, close-at, step}
 use Rattle.law.specs.Runs.{run, noted, accepted, Load, Cut, cutOf, cutsAfter, cuts, closes}
 use Rattle.law.specs.Law.{Whole, Reads, Each, marksOf, mustKeep, No-run-misplaces-a-panel}

@@ -22,7 +22,8 @@ use Rattle.seam.specs.Split.{marked, waits, kept as keptIn}
 use Rattle.seam.specs.Seam.{ends, treeOf, whyNot, short-list}
 use Rattle.law.specs.declared.Stage.{Stage}
 use Rattle.law.specs.declared.Stage.the-variants.{Empty, Loaded, Split, Closed}
-use Rattle.law.specs.Program.{chainBytes, through, finish, overwritten}
+use Rattle.panel.specs.Bytes.{overwritten}
+use Rattle.law.specs.Program.{chainBytes, through, finish}
 
 -- a call with its own arguments: a load with a predictor, a packing and a file's bytes; a split with a tolerance or none
 pub data Call : Type 0 where

@@ -1,9 +1,8 @@
 -- The cut program: chains of strokes, and the finish.
 use mathlib.Core.Bool.{Bool, cond}
 use mathlib.Core.List.{List, [], _∷_, _++_, map}
-use Prim.Native.Nat.{ℕ, _+_}
+use Prim.Native.Nat.{ℕ}
 use lib.IntN.{ℤ}
-use lib.ListN.{length, take, drop}
 use mir.Syntax.{w32}
 use mir.Val.{ofZ}
 use Rattle.std.specs.Iters.{counting}
@@ -56,7 +55,3 @@ steps k p = map (k .coordinate p) (counting 0 (k .axes))
 abbrev pub through : {P : Type 0} → KindMeaning P → List P → Chain
 through k [] = record { from = []; strokes = [] }
 through k (p ∷ ps) = record { from = steps k p; strokes = map (steps k) ps }
-
--- a list with bytes written at a place of it
-abbrev pub overwritten : List ℕ → ℕ → List ℕ → List ℕ
-overwritten xs at ys = take at xs ++ (ys ++ drop (at + length ys) xs)

@@ -11,7 +11,6 @@ use Rattle.panel.specs.Bytes.{overwritten}
 
 -- a write to a part
 pub over-part : (a k : ℕ) (old ys bytes : List ℕ) → ys ≡ bytes → k ≡ length bytes → putMid a k old ys ≡ overwritten old a bytes
-unfolding overwritten
 over-part a k old ys bytes e l =
     ap (λ (zs : List ℕ). take a old ++ (zs ++ drop k (drop a old))) e
     ∙ ap (λ (zs : List ℕ). take a old ++ (bytes ++ zs)) (drop-drop k a old ∙ ap (λ (n : ℕ). drop (a + n) old) l)
@@ -23,11 +22,9 @@ over-whole ys xs rest n e h =
     e ∙ ap (λ (zs : List ℕ). xs ++ zs) (drop-all (length xs) (take n rest) short) ∙ append-nil xs
 
 pub over-front : (old bytes : List ℕ) → overwritten old 0 bytes ≡ bytes ++ drop (length bytes) old
-unfolding overwritten
 over-front old bytes = ap (λ (n : ℕ). bytes ++ drop n old) (zero-add (length bytes))
 
 pub over-one : (old : List ℕ) (at x : ℕ) → at < length old → set old at x ≡ overwritten old at (x ∷ [])
-unfolding overwritten
 over-one old at x h =
     let e : suc at ≡ at + 1 = omega arith in
     set-split old at x h ∙ ap (λ (n : ℕ). take at old ++ (x ∷ drop n old)) e
@@ -37,14 +34,12 @@ module _ (old : List ℕ) (at : ℕ) (xs : List ℕ) (room : at + length xs ≤ 
   front = simp (length-append, length-take-le at old (omega arith))
 
   split : overwritten old at xs ≡ (take at old ++ xs) ++ drop (at + length xs) old
-  unfolding overwritten
   split = sym (append-assoc (take at old) xs (drop (at + length xs) old))
 
   pub length-over : length (overwritten old at xs) ≡ length old
   length-over = ap length split ∙ simp (length-append, length-take-le at old (omega arith), length-drop) (omega arith)
 
   pub over-more : (next : ℕ) (ys : List ℕ) → next ≡ at + length xs → overwritten (overwritten old at xs) next ys ≡ overwritten old at (xs ++ ys)
-  unfolding overwritten
   over-more next ys e =
       let a : ℕ = at + length xs in
       let D : List ℕ = drop a old in

@@ -4,5 +4,5 @@ use Prim.Native.Nat.{ℕ, _+_}
 use lib.ListN.{length, take, drop}
 
 -- a list in which some bytes stand from a place on, and all else is as it was
-unfoldable pub overwritten : List ℕ → ℕ → List ℕ → List ℕ
+abbrev pub overwritten : List ℕ → ℕ → List ℕ → List ℕ
 overwritten old at bytes = take at old ++ (bytes ++ drop (at + length bytes) old)

@@ -7,7 +7,7 @@ use lib.ListN.{length, take}
 use Rattle.std.proofs.shelf.Lists.{getD-take, length-take-le}
 use Rattle.std.proofs.shelf.Ways.{tells}
 use Rattle.seam.specs.Seam.{proper-count}
-use Rattle.law.specs.Program.{overwritten}
+use Rattle.panel.specs.Bytes.{overwritten}
 use Rattle.law.specs.Calls.{no, outcome}
 use Rattle.law.proofs.Drawing.{length-drawn}
 use Rattle.bench.specs.Stages.{stands}

@@ -4,7 +4,8 @@ use Prim.Native.Nat.{_<_}
 use native.Mathlib.Omega.{arith}
 use borrow.Author.Tests.{eqb-true, eqb-false}
 use lib.ListN.{length}
-use Rattle.law.specs.Program.{chainBytes, through, steps, travel, stroke, lower, overwritten}
+use Rattle.panel.specs.Bytes.{overwritten}
+use Rattle.law.specs.Program.{chainBytes, through, steps, travel, stroke, lower}
 use Rattle.law.specs.Calls.{kept}
 use Rattle.bench.proofs.Chains.{rest, rest-kept, rest-left, rest-end, rest-kept-length, chain-first, chain-length}
 use Rattle.bench.proofs.Overwriting.{part-overwritten}

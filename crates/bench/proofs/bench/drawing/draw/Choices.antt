@@ -1,7 +1,7 @@
 use mathlib.Core.Path.{_≡_}
 use Prim.Native.Nat.{_+_, _≤_}
 use lib.ListN.{length}
-use Rattle.law.specs.Program.{overwritten}
+use Rattle.panel.specs.Bytes.{overwritten}
 use Rattle.bench.proofs.Chains.{rest}
 use Rattle.bench.proofs.bench.drawing.draw.Given as given
 

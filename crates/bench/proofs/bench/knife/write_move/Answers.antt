@@ -11,7 +11,8 @@ use mir.Syntax.{w32}
 use mir.Val.{SFits, ofZ}
 use Rattle.std.specs.Iters.{counting}
 use Rattle.panel.specs.Words.{le32}
-use Rattle.law.specs.Program.{overwritten, spelled, steps}
+use Rattle.panel.specs.Bytes.{overwritten}
+use Rattle.law.specs.Program.{spelled, steps}
 use Rattle.bench.proofs.Overwriting.{overwritten-none, steps-more, letter-steps, length-steps}
 use Rattle.bench.proofs.bench.knife.write_move.Needs as need
 

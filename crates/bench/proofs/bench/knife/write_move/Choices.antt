@@ -2,7 +2,8 @@ use mathlib.Core.Path.{_≡_}
 use mathlib.Core.List.{map}
 use Prim.Native.Nat.{_+_}
 use Rattle.std.specs.Iters.{counting}
-use Rattle.law.specs.Program.{overwritten, spelled}
+use Rattle.panel.specs.Bytes.{overwritten}
+use Rattle.law.specs.Program.{spelled}
 use Rattle.bench.proofs.bench.knife.write_move.Given as given
 
 -- the steps of the axes so far stand behind the letter
