@@ -67,7 +67,19 @@ pub fn range<'a>(rest: &'a [u8], at: usize) -> Result<(Piece<'a>, &'a [u8]), Ref
     ensures { λ r. ⌜ plain r ≡ rangeFrom at (now (rest .entry)) ⌝ }
 {
     match rest {
-        [RANGE_LETTER, bits, l0, l1, l2, l3, u0, u1, u2, u3, rest @ ..] => {
+        [
+            RANGE_LETTER,
+            bits,
+            l0,
+            l1,
+            l2,
+            l3,
+            u0,
+            u1,
+            u2,
+            u3,
+            rest @ ..,
+        ] => {
             let lower = u32::from_le_bytes([*l0, *l1, *l2, *l3]);
             let upper = u32::from_le_bytes([*u0, *u1, *u2, *u3]);
             Ok((
@@ -89,10 +101,7 @@ pub fn length<'a>(rest: &'a [u8], at: usize) -> Result<(Piece<'a>, &'a [u8]), Re
 {
     match rest {
         [LENGTH_LETTER, a, b, c, d, rest @ ..] => {
-            Ok((
-                Piece::Length(u32::from_le_bytes([*a, *b, *c, *d])),
-                rest,
-            ))
+            Ok((Piece::Length(u32::from_le_bytes([*a, *b, *c, *d])), rest))
         }
         [_, _, _, _, _, ..] => Err(refused(Why::Letter, at)),
         _ => Err(refused(Why::Truncated, at)),
