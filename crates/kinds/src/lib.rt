@@ -25,6 +25,7 @@ pub trait PointKind: Sized {
 
 // Sail cloth: two axes.
 #[derive(Clone, Copy, Debug, PartialEq, Eq)]
+#[repr(C)]
 pub struct Flat {
     pub x: i32,
     pub y: i32,
@@ -54,6 +55,7 @@ pub impl PointKind for Flat as FlatKind {
 
 // A mould: three axes.
 #[derive(Clone, Copy, Debug, PartialEq, Eq)]
+#[repr(C)]
 pub struct Mould {
     pub x: i32,
     pub y: i32,

@@ -73,10 +73,12 @@ fn place_axis<K: PointKind + Copy, P: Predictor, Q: Packing>(
     requires coded { ⌜ allCodes (scaleOf (now range)) (values (P·Predictor .means) (listed (Q·Packing .means .reading .reads n (now body)))) ≡ true ⌝ }
     ensures { λ _. ⌜ now (points .exit) ≡ fillOn (K·PointKind .kind) axis (scaleOf (now (range .entry))) (values (P·Predictor .means) (listed (Q·Packing .means .reading .reads n (now (body .entry))))) (now (points .entry)) ⌝ }
 {
+    // a copy, which no write to the points can change: its figures are then taken once
+    let range = *range;
     let mut before = Before::none();
     for i in 0..n {
         let code = restored::<P>(i as u16, before, Q::entry(body, n, i));
-        points[i] = at_place(&points[i], axis, place_of(range, code));
+        points[i] = at_place(&points[i], axis, place_of(&range, code));
         before = before.then(code);
     }
 }

@@ -114,7 +114,7 @@ bit-at bytes p under h =
     let place : 8 * end - (p + 1) ≡ 7 - p % 8 = omega arith in
     let front : number 256 (take end bytes) ≡ number 256 (take j bytes) * 2 ^ (8 * (end - j)) + getD bytes j 0 =
     ap (λ (k : ℕ). number 256 (take k bytes)) next ∙ number-more 256 bytes j (omega arith) ∙ ap (λ (k : ℕ). number 256 (take j bytes) * 2 ^ k + getD bytes j 0) (sym eight) in
-    sym (field-is bytes p 1 end (number 256 (take j bytes)) (getD bytes j 0) under refl (omega arith) front) ∙ ap (λ (k : ℕ). getD bytes j 0 / 2 ^ k % 2) place
+    sym (field-is bytes p 1 end (number 256 (take j bytes)) (getD bytes j 0) under (omega arith) (omega arith) front) ∙ ap (λ (k : ℕ). getD bytes j 0 / 2 ^ k % 2) place
 
 pub high-first : High-first
 high-first n w bytes under size i k hi hk =

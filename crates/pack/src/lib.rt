@@ -2,7 +2,7 @@
 ghost use mathlib.Core.Path.{_≡_};
 ghost use mathlib.Core.List.{_∷_, _++_, map};
 ghost use Prim.Native.Nat.{ℕ, _+_, _-_, _*_, _/_, _%_, _^_, _<_, _≤_};
-ghost use lib.ListN.{length, drop};
+ghost use lib.ListN.{length, drop, take};
 ghost use Rattle.std.specs.shelf.Digits.{number, Under};
 ghost use Rattle.pack.specs.Packing.{PackingMeaning, Counted, Accepted, verdict, entry as Entry};
 ghost use Rattle.pack.specs.Plain.{plain, le-bytes, le-at};
@@ -194,14 +194,36 @@ fn spare_bits(body: &[u8], k: usize) -> u8
     }
 }
 
-// The `w` bits from the bit `at` on: they lie in at most five bytes.
+// The number that the eight bytes from `start` on write, the highest first.
+fn eight(bytes: &[u8], start: usize) -> u64
+    requires { ⌜ start + 8 ≤ length (now bytes) ⌝ }
+    ensures { λ r. ⌜ number 256 (take (start + 8) (now (bytes .entry))) ≡ number 256 (take start (now (bytes .entry))) * 2 ^ (8 * (start + 8 - start)) + r ⌝ }
+{
+    u64::from_be_bytes([
+        bytes[start],
+        bytes[start + 1],
+        bytes[start + 2],
+        bytes[start + 3],
+        bytes[start + 4],
+        bytes[start + 5],
+        bytes[start + 6],
+        bytes[start + 7],
+    ])
+}
+
+// The `w` bits from the bit `at` on: they lie in at most five bytes. Where eight are left, they are read at once.
 fn field(bytes: &[u8], at: usize, w: usize) -> u32
     requires { ⌜ w ≤ 32 ⌝ ∗ ⌜ at + w ≤ 8 * length (now bytes) ⌝ ∗ ⌜ length (now bytes) ≤ 65536 ⌝ }
     ensures { λ r. ⌜ r ≡ number 256 (now (bytes .entry)) / 2 ^ (8 * length (now (bytes .entry)) - (at + w)) % 2 ^ w ⌝ }
 {
+    let start = at / 8;
+    if w > 0 && start + 8 <= bytes.len() {
+        let sum = eight(bytes, start);
+        return ((sum >> (8 * (start + 8) - (at + w))) % (1 << w)) as u32;
+    }
     let end = (at + w + 7) / 8;
     let mut sum: u64 = 0;
-    for j in at / 8..end {
+    for j in start..end {
         sum = 256 * sum + u64::from(bytes[j]);
     }
     ((sum >> (8 * end - (at + w))) % (1 << w)) as u32

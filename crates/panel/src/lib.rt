@@ -94,6 +94,8 @@ fn fill<K: PointKind, P: Predictor>(
     ensures inside { λ r. ⌜ r ≡ insideOn (K·PointKind .kind) axis (scaleOf (now (range .entry))) (now (design .entry)) ⌝ }
     ensures list { λ r. ⌜ (r ≡ true → take (length (now (design .entry))) (now (work .exit)) ≡ residues (P·Predictor .means) (codesOn (K·PointKind .kind) axis (scaleOf (now (range .entry))) (now (design .entry)))) ⌝ }
 {
+    // a copy, which no write to the work list can change: its figures are then taken once
+    let range = *range;
     let mut before = Before::none();
     for i in 0..design.len() {
         let Some(code) = range.code(design[i].coordinate(axis)) else {

@@ -1,5 +1,5 @@
 -- Products and differences as the code makes them.
-use Prim.Native.Nat.{ℕ, zero, suc, _+_, _-_, _*_, _^_, _<_, _≤_}
+use Prim.Native.Nat.{ℕ, zero, suc, min, _+_, _-_, _*_, _^_, _<_, _≤_}
 use native.Mathlib.Nat.{mul-le-mul}
 use mathlib.Core.Path.{_≡_, refl, ap, _∙_}
 use native.Mathlib.Omega.{arith}
@@ -87,3 +87,15 @@ chosen-small B x y z (suc (suc a)) h i j = j
 pub clamped-small : (m : ℕ) (z : ℤ) → clamped m z ≤ m
 clamped-small m (pos n) = omega arith
 clamped-small m (negsuc n) = omega arith
+
+-- a distance is its size, its way; where it is 0 any size will do
+pub sign-times : (z : ℤ) (m : ℕ) → (0 < natAbs z → natAbs z ≡ m) → signZ z *ℤ pos m ≡ z
+sign-times (pos zero) m h = ap pos (omega arith)
+sign-times (pos (suc n)) m h =
+    let e : suc n ≡ m = h (omega arith) in
+    let one : min (suc n) 1 ≡ 1 = omega arith in
+    ap pos (rw one (omega arith))
+sign-times (negsuc n) m h =
+    let e : suc n ≡ m = h (omega arith) in
+    let one : 1 * m ≡ suc n = omega arith in
+    ap (λ (k : ℕ). negℤ (pos k)) one

@@ -1,16 +1,20 @@
 -- A gauge weighs a vertex as the rule says.
 use Prim.Native.Nat.{ℕ, _*_, _^_, _<_, _≤_}
-use mathlib.Core.Path.{_≡_, ap, _∙_}
+use mathlib.Core.Bool.{Bool, true, false, cond}
+use mathlib.Core.Path.{_≡_, refl, ap, _∙_}
 use native.Mathlib.Omega.{arith}
 use lib.IntN.{ℤ, pos, natAbs, _-ℤ_, _*ℤ_}
+use lib.Dec.{eqb}
 use lib.Signed.{mag}
 use mir.Syntax.{w64}
 use mir.Val.{toZ, ofZ}
 use Rattle.std.proofs.shelf.Signed.{toZ-pos, toZ-ofZ}
+use Rattle.std.proofs.shelf.Tests.{eqb-true, eqb-false}
 use Rattle.kinds.specs.Kind.{chosen}
+use Rattle.std.specs.Numbers.{signZ}
 use Rattle.seam.specs.Weight.{spanOf, majorOf, clamped, alongOf, reachOf, offOf}
 use Rattle.seam.specs.declared.gauge.Gauge.{Gauge}
-use Rattle.seam.proofs.Sizes.{back, sign-small, chosen-small, clamped-small}
+use Rattle.seam.proofs.Sizes.{back, sign-small, sign-times, chosen-small, clamped-small}
 
 -- a number as the code holds it
 abbrev pub held : ℤ → ℤ
@@ -23,7 +27,25 @@ held-is z ok = toZ-ofZ w64 z (record { sfits = ok })
 pub span-held : (n : ℕ) (x y z : ℤ) → natAbs x ≤ 2 ^ 21 → natAbs y ≤ 2 ^ 21 → natAbs z ≤ 2 ^ 21 → n ≡ spanOf x y z → toZ w64 n ≡ pos (spanOf x y z)
 span-held n x y z a b c e = toZ-pos w64 n (omega arith) ∙ ap pos e
 
+-- the axis that two tests choose has the size m, unless it has none
+chosen-size : (b c : Bool) (m : ℕ) (x y z : ℤ) → (b ≡ true → natAbs x ≡ m) → (c ≡ true → natAbs y ≡ m) → (b ≡ false → c ≡ false → 0 < natAbs z → natAbs z ≡ m) → 0 < natAbs (chosen x y z (cond b 0 (cond c 1 2))) → natAbs (chosen x y z (cond b 0 (cond c 1 2))) ≡ m
+chosen-size true c m x y z h i j p = h refl
+chosen-size false true m x y z h i j p = i refl
+chosen-size false false m x y z h i j p = j refl refl p
+
+-- on the major axis B lies m from A, unless A and B are one place
+major-size : (x y z : ℤ) → 0 < natAbs (chosen x y z (majorOf (spanOf x y z) x y)) → natAbs (chosen x y z (majorOf (spanOf x y z) x y)) ≡ spanOf x y z
+major-size x y z =
+    chosen-size (eqb (natAbs x) (spanOf x y z)) (eqb (natAbs y) (spanOf x y z)) (spanOf x y z) x y z
+    (eqb-true (natAbs x) (spanOf x y z))
+    (eqb-true (natAbs y) (spanOf x y z))
+    (λ b c p. omega (arith, eqb-false (natAbs x) (spanOf x y z) b, eqb-false (natAbs y) (spanOf x y z) c))
+
 module _ (g : Gauge) where
+  -- and it lies there the chord's way
+  pub major-run : g .way *ℤ g .span ≡ chosen (g .x) (g .y) (g .z) (g .major)
+  major-run = rw (g .toward, g .greatest, g .first) (sign-times _ (spanOf (g .x) (g .y) (g .z)) (major-size (g .x) (g .y) (g .z)))
+
   pub span-small : natAbs (g .span) ≤ 2 ^ 21
   span-small = rw (g .greatest) (omega (arith, g .short))
 

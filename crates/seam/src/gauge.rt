@@ -42,9 +42,9 @@ pub(crate) struct Gauge {
     // m: the greatest of the three distances, or 1
     span: i64,
     // the major axis, 0 to 2
-    major: usize,
+    pub major: usize,
     // 1 or -1 as B lies up or down that axis, 0 where A and B are one place
-    way: i64,
+    pub way: i64,
     ghost within: { OnBench (from .x) × OnBench (from .y) × OnBench (from .z) },
     ghost short: { (natAbs x ≤ 2 ^ 21) × (natAbs y ≤ 2 ^ 21) × (natAbs z ≤ 2 ^ 21) },
     ghost greatest: { span ≡ pos (spanOf x y z) },
@@ -86,18 +86,36 @@ impl Gauge {
         weight <= u64::from(tolerance) * self.span as u64
     }
 
-    // The greatest over the axes of |m (P - A) - k d|.
-    pub(crate) fn weight(&self, p: Place) -> u64
-        requires { ⌜ OnBench (p .x) × OnBench (p .y) × OnBench (p .z) ⌝ }
+    // B - A on an axis. On the major one it is m or -m; said so, a product is saved at each vertex.
+    fn run(&self, axis: usize, major: usize, way: i64) -> i64
+        requires major { ⌜ major ≡ now self .major ⌝ }
+        requires way { ⌜ way ≡ now self .way ⌝ }
+        ensures { λ r. ⌜ r ≡ chosen (now (self .entry) .x) (now (self .entry) .y) (now (self .entry) .z) axis ⌝ }
+    {
+        if axis == major {
+            way * self.span
+        } else {
+            on_axis(axis, self.x, self.y, self.z)
+        }
+    }
+
+    // The greatest over the axes of |m (P - A) - k d|; the caller names the chord's major axis and way.
+    pub(crate) fn weight(&self, major: usize, way: i64, p: Place) -> u64
+        requires major { ⌜ major ≡ now self .major ⌝ }
+        requires way { ⌜ way ≡ now self .way ⌝ }
+        requires place { ⌜ OnBench (p .x) × OnBench (p .y) × OnBench (p .z) ⌝ }
         ensures value { λ r. ⌜ r ≡ weightOver (now (self .entry) .x) (now (self .entry) .y) (now (self .entry) .z) (p .x -ℤ now (self .entry) .from .x) (p .y -ℤ now (self .entry) .from .y) (p .z -ℤ now (self .entry) .from .z) ⌝ }
         ensures bound { λ r. ⌜ r ≤ 2 ^ 43 ⌝ }
     {
         let x = apart(p.x, self.from.x);
         let y = apart(p.y, self.from.y);
         let z = apart(p.z, self.from.z);
-        let k = reach(self.way, on_axis(self.major, x, y, z), self.span);
-        off(self.span, x, k, self.x).max(off(self.span, y, k, self.y))
-            .max(off(self.span, z, k, self.z))
+        let k = reach(way, on_axis(major, x, y, z), self.span);
+        let d = self.run(0, major, way);
+        let e = self.run(1, major, way);
+        let f = self.run(2, major, way);
+        off(self.span, x, k, d).max(off(self.span, y, k, e))
+            .max(off(self.span, z, k, f))
     }
 }
 

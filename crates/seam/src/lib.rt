@@ -47,8 +47,36 @@ fn placed<K: PointKind>(points: &[K], i: usize) -> Place
     Place::of(&points[i])
 }
 
-// The heaviest vertex inside the chord from `a` to `b`, the first of equals, and its weight.
+// The heaviest vertex inside the chord from `a` to `b`, the first of equals, and its weight. The loop is told the chord's
+// major axis and way as constants, so that it chooses neither at each vertex.
 fn heaviest<K: PointKind>(points: &[K], chord: &Gauge, a: usize, b: usize) -> (usize, u64)
+    requires inner { ⌜ a < b ⌝ }
+    requires b { ⌜ b < length (now points) ⌝ }
+    requires within { ⌜ Within (told (K·PointKind .kind) (now points)) (length (now points)) ⌝ }
+    ensures { λ r. ⌜ r ≡ heaviestOf (weightsFrom (now (chord .entry) .from .x) (now (chord .entry) .from .y) (now (chord .entry) .from .z) (now (chord .entry) .x) (now (chord .entry) .y) (now (chord .entry) .z) (told (K·PointKind .kind) (now (points .entry)))) a (inner a b) ⌝ }
+{
+    match (chord.major, chord.way) {
+        (0, 1) => heaviest_along(points, chord, 0, 1, a, b),
+        (0, -1) => heaviest_along(points, chord, 0, -1, a, b),
+        (1, 1) => heaviest_along(points, chord, 1, 1, a, b),
+        (1, -1) => heaviest_along(points, chord, 1, -1, a, b),
+        (2, 1) => heaviest_along(points, chord, 2, 1, a, b),
+        (2, -1) => heaviest_along(points, chord, 2, -1, a, b),
+        (major, way) => heaviest_along(points, chord, major, way, a, b),
+    }
+}
+
+// The same, with the chord's major axis and way.
+fn heaviest_along<K: PointKind>(
+    points: &[K],
+    chord: &Gauge,
+    major: usize,
+    way: i64,
+    a: usize,
+    b: usize,
+) -> (usize, u64)
+    requires major { ⌜ major ≡ now chord .major ⌝ }
+    requires way { ⌜ way ≡ now chord .way ⌝ }
     requires inner { ⌜ a < b ⌝ }
     requires b { ⌜ b < length (now points) ⌝ }
     requires within { ⌜ Within (told (K·PointKind .kind) (now points)) (length (now points)) ⌝ }
@@ -56,7 +84,7 @@ fn heaviest<K: PointKind>(points: &[K], chord: &Gauge, a: usize, b: usize) -> (u
 {
     let mut best = (a, 0);
     for i in a + 1..b {
-        best = heavier(best, i, chord.weight(placed(points, i)));
+        best = heavier(best, i, chord.weight(major, way, placed(points, i)));
     }
     best
 }

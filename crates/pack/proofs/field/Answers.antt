@@ -35,5 +35,11 @@ returns c =
     let end : ℕ = (c .args .at + c .args .w + 7) / 8 in
     let last : c .loop-j .j ≡ end = omega arith in
     ap (λ (m : ℕ). c .loop-j .sum / 2 ^ (8 * end - (c .args .at + c .args .w)) % m) (one-shl (c .args .w) 64 (omega arith))
-    ∙ field-is (c .args .bytes .now) (c .args .at) (c .args .w) end _ (c .loop-j .sum) (under-typed (c .args .bytes .now) (λ i. c .typed .bytes i .fits)) refl (omega arith)
+    ∙ field-is (c .args .bytes .now) (c .args .at) (c .args .w) end _ (c .loop-j .sum) (under-typed (c .args .bytes .now) (λ i. c .typed .bytes i .fits)) (omega arith) (omega arith)
     (subst (λ (k : ℕ). number 256 (take k (c .args .bytes .now)) ≡ number 256 (take (c .args .at / 8) (c .args .bytes .now)) * 2 ^ (8 * (k - c .args .at / 8)) + c .loop-j .sum) last (c .loop-j .inv .0))
+
+pub returns-then-start-bytes : need.returns-then-start-bytes
+returns-then-start-bytes c =
+    let end : ℕ = c .args .at / 8 + 8 in
+    ap (λ (m : ℕ). c .eight-sum .result / 2 ^ (8 * end - (c .args .at + c .args .w)) % m) (one-shl (c .args .w) 64 (omega arith))
+    ∙ field-is (c .args .bytes .now) (c .args .at) (c .args .w) end _ (c .eight-sum .result) (under-typed (c .args .bytes .now) (λ i. c .typed .bytes i .fits)) (omega arith) (omega arith) (c .eight-sum .ensures)

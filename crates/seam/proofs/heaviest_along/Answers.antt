@@ -5,7 +5,7 @@ use Rattle.kinds.specs.Vertex.{told}
 use Rattle.seam.specs.Weight.{weightsFrom}
 use Rattle.seam.proofs.Heavy.{heaviest-none, heaviest-step, heaviest-done}
 use Rattle.seam.proofs.Vertices.{weighs}
-use Rattle.seam.proofs.heaviest.Needs as need
+use Rattle.seam.proofs.heaviest_along.Needs as need
 
 pub loop-i-holds : need.loop-i-holds
 loop-i-holds g c =

@@ -3,7 +3,7 @@ use mathlib.Core.Path.{_≡_}
 use Rattle.kinds.specs.Vertex.{told}
 use Rattle.seam.specs.Heaviest.{heaviest}
 use Rattle.seam.specs.Weight.{weightsFrom}
-use Rattle.seam.proofs.heaviest.Given as given
+use Rattle.seam.proofs.heaviest_along.Given as given
 
 -- the heaviest of the vertices that were passed
 abbrev pub Inv-loop-i : given.InvT-loop-i
