@@ -1,9 +1,11 @@
 #!/bin/sh
 # Builds panelcut (every crate below it is proved first), cuts the shipped panel, and shows what the knife will do.
 cd "$(dirname "$0")/.." || exit 1
-rt check panelcut >target-check.log 2>&1 || { cat target-check.log; rm -f target-check.log; exit 1; }
-tail -n 1 target-check.log
-rm -f target-check.log
+echo "proving and building panelcut (some minutes the first time) ..."
+said=$(mktemp)
+rt check panelcut >"$said" 2>&1 || { cat "$said"; rm -f "$said"; exit 1; }
+tail -n 1 "$said"
+rm -f "$said"
 panel=${1:-examples/luff.panel}
 out=target/$(basename "$panel" .panel).cut
 echo "panel:   $panel, $(wc -c <"$panel" | tr -d ' ') bytes, $(od -An -tu1 -j 4 -N 2 "$panel" | awk '{ print $1 + 256 * $2 }') vertices"
