@@ -5,12 +5,29 @@ use crate::library::{Answer, Cutting, Library, Plain, Proved, RangeWords, Storin
 use crate::random::Random;
 use std::collections::BTreeMap;
 
+/// From so many vertices on, a case counts as long.
+const LONG: usize = 1000;
+
 const TOLERANCES: [u32; 8] = [NO_TOLERANCE, 0, 1, 8, 255, 256, 257, 40];
 
 /// Words of ends that a range must look at closely: NaN, infinite, negative zero, too small, no whole unit, too far.
 pub const ODD_ENDS: [u32; 16] = [
-    0x7FC0_0000, 0x7F80_0001, 0x7F80_0000, 0xFF80_0000, 0x8000_0000, 0x0000_0000, 0x0000_0001, 0x8000_0001,
-    0x3B00_0000, 0x4121_999A, 0x4780_0000, 0xC780_0000, 0x4780_0001, 0xC780_0001, 0x3B80_0000, 0x4800_0000,
+    0x7FC0_0000,
+    0x7F80_0001,
+    0x7F80_0000,
+    0xFF80_0000,
+    0x8000_0000,
+    0x0000_0000,
+    0x0000_0001,
+    0x8000_0001,
+    0x3B00_0000,
+    0x4121_999A,
+    0x4780_0000,
+    0xC780_0000,
+    0x4780_0001,
+    0xC780_0001,
+    0x3B80_0000,
+    0x4800_0000,
 ];
 
 /// A panel as design gives it.
@@ -26,7 +43,10 @@ struct Design<const A: usize> {
 #[derive(Default)]
 pub struct Tally {
     rows: BTreeMap<(&'static str, usize), BTreeMap<u32, usize>>,
+    /// Accepted cuts of each kind, predictor and packing.
+    pairings: BTreeMap<(usize, u8, u8), usize>,
     pub calls: usize,
+    pub long: usize,
     pub differences: usize,
 }
 
@@ -44,6 +64,11 @@ impl Tally {
             let accepted = answers.get(&0).copied().unwrap_or(0);
             println!("  {call:<6} {kind:<6} accepted {accepted:>7}   refused {}", told.join(" "));
         }
+        let least = self.pairings.values().min().copied().unwrap_or(0);
+        println!(
+            "accepted cuts at {} of 36 pairings of kind, predictor and packing, at each at least {least}",
+            self.pairings.len()
+        );
     }
 }
 
@@ -83,7 +108,13 @@ fn coordinates(r: &mut Random, count: usize, low: i64, high: i64) -> Vec<i32> {
                 1 => (at + r.between(-step, step)).clamp(low, high),
                 2 => r.pick(&[low, high, (low + high) / 2]),
                 3 => low + (high - low) * i as i64 / count as i64,
-                _ => if i % 2 == 0 { low + (high - low) * i as i64 / (2 * count as i64) } else { high },
+                _ => {
+                    if i % 2 == 0 {
+                        low + (high - low) * i as i64 / (2 * count as i64)
+                    } else {
+                        high
+                    }
+                }
             };
             at as i32
         })
@@ -151,8 +182,12 @@ impl Comparison {
             let (points, marks, program) = (&mut lists.0[..], &mut lists.1[..], &mut lists.2[..]);
             (L::cut(Cutting { file, predictor, packing, tolerance, points, marks, program }), lists)
         }
+        self.tally.long += usize::from(room.points >= LONG);
         let plain = run::<Plain, A>(file, pairing, tolerance, lists.clone());
         let proved = run::<Proved, A>(file, pairing, tolerance, lists);
+        if plain.0.refusal == 0 {
+            *self.tally.pairings.entry((A, pairing.0, pairing.1)).or_default() += 1;
+        }
         self.judge("cut", A, plain, proved)
     }
 
@@ -161,6 +196,7 @@ impl Comparison {
     where
         Proved: Library<A>,
     {
+        self.tally.long += usize::from(d.points.len() >= LONG);
         let list = bytes(&mut self.random, file_length);
         fn run<L: Library<A>, const A: usize>(d: &Design<A>, work_length: usize, mut list: Vec<u8>) -> (Answer, Vec<u8>) {
             let (work, file) = (&mut vec![0; work_length][..], &mut list[..]);
@@ -222,7 +258,9 @@ impl Comparison {
                 1 => d.ranges[axis].lower = r.pick(&ODD_ENDS),
                 2 => d.ranges[axis].upper = r.pick(&ODD_ENDS),
                 3 => d.ranges[axis].upper = d.ranges[axis].lower,
-                4 if vertex < d.points.len() => d.points[vertex][axis] = r.pick(&[i32::MIN, i32::MAX, 1 << 24, -1 - (1 << 24), anywhere]),
+                4 if vertex < d.points.len() => {
+                    d.points[vertex][axis] = r.pick(&[i32::MIN, i32::MAX, 1 << 24, -1 - (1 << 24), anywhere])
+                }
                 5 => d.points.resize(r.pick(&[0, 1, 2, 4096, 4097, 5000]), d.points.first().copied().unwrap_or([0; A])),
                 _ => (d.predictor, d.packing) = (r.pick(&[0, 8, 9, 255]), r.pick(&[0, 1, 2, 255])),
             }
@@ -260,7 +298,8 @@ impl Comparison {
             pairing = (r.pick(&[0, 8, 9, 255]), r.pick(&[0, 1, 2, 255]));
         }
         let tolerance = r.pick(&TOLERANCES);
-        let room = Room { points: self.near(count + 1), marks: self.near(count + 1), program: self.near(count * (1 + 4 * A) + 3) };
+        let room =
+            Room { points: self.near(count + 1), marks: self.near(count + 1), program: self.near(count * (1 + 4 * A) + 3) };
         self.cut::<A>(&list, pairing, tolerance, room);
     }
 
@@ -313,6 +352,7 @@ impl Comparison {
         let (points, marks) = lists;
         let mut other = marks.clone();
         let mut same = marks;
+        self.tally.long += usize::from(points.len() >= LONG);
         let plain = Plain::split(&points, count, tolerance, &mut other);
         let proved = Proved::split(&points, count, tolerance, &mut same);
         self.judge("split", A, (plain, other), (proved, same));
@@ -342,7 +382,10 @@ pub fn run(seed: u64, cases: usize) -> bool {
         let sort = if c.random.once_in(2) { c.one::<2>() } else { c.one::<3>() };
         *sorts.entry(sort).or_default() += 1;
     }
-    println!("cases: seed {seed:#x}, {cases} cases, {} calls compared", c.tally.calls);
+    println!(
+        "cases: seed {seed:#x}, {cases} cases, {} calls compared, {} of them with {LONG} points or more",
+        c.tally.calls, c.tally.long
+    );
     for (sort, count) in sorts {
         println!("  {sort:<20} {count:>7}");
     }

@@ -51,7 +51,9 @@ pub fn damage<const A: usize>(r: &mut Random, file: &mut Vec<u8>) {
         }
         13 => file[body + 4] = r.pick(&[0, 1, 31, 32, 33, 64, 255]),
         14 => file[body + length - 1] ^= 1 << r.below(7),
-        15 => put(file, body + 4 * r.below(length as u64 / 4) as usize, r.pick(&[u32::MAX, 0x8000_0000, 0x7FFF_FFFF, 1 << 24, 0])),
+        15 => {
+            put(file, body + 4 * r.below(length as u64 / 4) as usize, r.pick(&[u32::MAX, 0x8000_0000, 0x7FFF_FFFF, 1 << 24, 0]))
+        }
         16 => file.insert(anywhere, r.next() as u8),
         _ => drop(file.remove(anywhere)),
     }

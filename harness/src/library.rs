@@ -37,16 +37,16 @@ pub type Mould = [i32; 3];
 macro_rules! exported {
     ($cut:ident, $split:ident, $store:ident, $point:ty, $($axis:ident),*) => {
         extern "C" {
-            fn $cut(
+            pub fn $cut(
                 file: *const u8, file_length: usize, predictor: u8, packing: u8, tolerance: u32,
                 points: *mut $point, points_length: usize, marks: *mut u8, marks_length: usize,
                 program: *mut u8, program_length: usize,
             ) -> Answer;
-            fn $split(
+            pub fn $split(
                 points: *const $point, points_length: usize, count: usize, tolerance: u32,
                 marks: *mut u8, marks_length: usize,
             ) -> Answer;
-            fn $store(
+            pub fn $store(
                 design: *const $point, design_length: usize, predictor: u8, packing: u8, $($axis: *const RangeWords,)*
                 work: *mut i32, work_length: usize, file: *mut u8, file_length: usize,
             ) -> Answer;
@@ -170,7 +170,7 @@ impl<const A: usize> Library<A> for Plain {
             };
         }
         match at_pairing!(c.predictor, c.packing, call) {
-            Ok(cut) => Answer { length: cut.length, ..Answer::default() },
+            Ok(length) => Answer { length, ..Answer::default() },
             Err(r) => refused(r),
         }
     }

@@ -6,14 +6,6 @@ use super::predict::Predictor;
 use super::seam::{split, USUAL};
 use super::{refuse, Refusal};
 
-/// What a finished program's panel came to.
-pub struct Cut {
-    pub count: usize,
-    pub kept: usize,
-    pub waiting: usize,
-    pub length: usize,
-}
-
 /// Appends one command and the point that it goes to.
 fn command<const A: usize>(program: &mut [u8], at: usize, letter: u8, point: &[i32; A]) -> usize {
     program[at] = letter;
@@ -24,7 +16,13 @@ fn command<const A: usize>(program: &mut [u8], at: usize, letter: u8, point: &[i
 }
 
 /// Appends the chain of the kept vertices, and answers the new program length.
-pub fn cut<const A: usize>(points: &[[i32; A]], marks: &[u8], count: usize, program: &mut [u8], length: usize) -> Result<usize, Refusal> {
+pub fn cut<const A: usize>(
+    points: &[[i32; A]],
+    marks: &[u8],
+    count: usize,
+    program: &mut [u8],
+    length: usize,
+) -> Result<usize, Refusal> {
     if points.len() < count || marks.len() < count {
         return refuse(10, 0);
     }
@@ -56,17 +54,16 @@ pub fn close(program: &mut [u8], length: usize) -> Result<usize, Refusal> {
     Ok(length + 1)
 }
 
-/// Load, split, cut and close on a new bench. The first refusal is told; what was accepted before it stays done.
+/// Load, split, cut and close on a new bench; answers the program's length. The first refusal is told; what was accepted before it stays done.
 pub fn cut_panel<const A: usize, P: Predictor, Q: Packing>(
     file: &[u8],
     tolerance: Option<u32>,
     points: &mut [[i32; A]],
     marks: &mut [u8],
     program: &mut [u8],
-) -> Result<Cut, Refusal> {
+) -> Result<usize, Refusal> {
     let count = load::<A, P, Q>(file, points)?;
-    let (kept, waiting) = split(points, count, tolerance.unwrap_or(USUAL), marks).or_else(|number| refuse(number, 0))?;
+    split(points, count, tolerance.unwrap_or(USUAL), marks).or_else(|number| refuse(number, 0))?;
     let length = cut(points, marks, count, program, 0)?;
-    let length = close(program, length)?;
-    Ok(Cut { count, kept, waiting, length })
+    close(program, length)
 }

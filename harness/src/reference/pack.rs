@@ -33,7 +33,11 @@ impl Packing for Words {
     }
 
     fn judge(body: &[u8], count: usize) -> Result<(), u32> {
-        if body.len() == 4 * count { Ok(()) } else { Err(15) }
+        if body.len() == 4 * count {
+            Ok(())
+        } else {
+            Err(15)
+        }
     }
 
     #[inline]

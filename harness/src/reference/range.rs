@@ -46,7 +46,11 @@ pub fn units(word: u32) -> Option<i64> {
 
 /// The word of an end as it is written: negative zero becomes zero.
 fn written(word: u32) -> u32 {
-    if word == 0x8000_0000 { 0 } else { word }
+    if word == 0x8000_0000 {
+        0
+    } else {
+        word
+    }
 }
 
 impl Range {
