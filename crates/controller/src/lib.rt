@@ -1,7 +1,6 @@
 // The table's calls for a controller in C: plain numbers and lent lists in, plain numbers out. Nothing is kept between calls.
 ghost use mathlib.Core.Path.{_≡_};
-ghost use mathlib.Core.List.{List, [], _∷_};
-ghost use Prim.Native.Nat.{ℕ};
+ghost use mathlib.Core.List.{[], _∷_};
 ghost use lib.ListN.{length};
 ghost use Rattle.kinds.specs.Models.{flat, mould};
 ghost use Rattle.seam.specs.Seam.{splitOf};
@@ -15,14 +14,12 @@ mod pairing;
 use answer::Answer;
 use answer::RangeWords;
 use answer::counted;
-use answer::refused;
 use kinds::Flat;
 use kinds::FlatKind;
 use kinds::Mould;
 use kinds::MouldKind;
 use pairing::cut_by;
 use pairing::store_by;
-use range::range::Range;
 use seam::split;
 
 // Cuts one panel file on a new bench: load, split, cut and close. A tolerance of 2^32 - 1 stands for none.
@@ -41,6 +38,7 @@ pub extern "C" fn loft_cut_flat(
     cut_by::<Flat>(predictor, packing, file, tolerance, points, marks, program)
 }
 
+// The same for moulds.
 #[unsafe(no_mangle)]
 pub extern "C" fn loft_cut_mould(
     file: &[u8],
@@ -70,6 +68,7 @@ pub extern "C" fn loft_split_flat(
     counted(split::<Flat>(points, count, tolerance, marks))
 }
 
+// The same for moulds.
 #[unsafe(no_mangle)]
 pub extern "C" fn loft_split_mould(
     points: &[Mould],
@@ -99,6 +98,7 @@ pub extern "C" fn loft_store_flat(
     store_by::<Flat>(predictor, packing, design, x, y, y, work, file)
 }
 
+// The same for moulds.
 #[unsafe(no_mangle)]
 pub extern "C" fn loft_store_mould(
     design: &[Mould],

@@ -1,10 +1,7 @@
 // Predictor and packing by their numbers: the call at one of the eighteen pairings.
 ghost use mathlib.Core.Path.{_≡_};
-ghost use mathlib.Core.List.{List, [], _∷_};
-ghost use Prim.Native.Nat.{ℕ};
+ghost use mathlib.Core.List.{[], _∷_};
 ghost use lib.ListN.{length};
-ghost use Rattle.std.specs.declared.result.Result.{Result};
-ghost use Rattle.controller.specs.declared.answer.Answer.{Answer};
 ghost use lib.Ieee.{binary32, ofBits};
 ghost use Rattle.range.specs.Scale.{Made};
 ghost use Rattle.controller.specs.Ranges.{Ranged, whyRanges};
