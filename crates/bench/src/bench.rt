@@ -8,6 +8,7 @@ use std::marker::PhantomData;
 mod calls;
 mod drawing;
 mod knife;
+mod telling;
 
 // Where a panel is loaded or split, its count is 2 to 4,096.
 #[derive(Drop)]

@@ -18,7 +18,8 @@ pub mod bench;
 
 pub use bench::Bench;
 
-// Cuts one panel file on a new bench: load, split, cut and close. The first refusal ends it.
+// Cuts one panel file on a new bench: load, split, cut and close. The first refusal ends it. This call carries the law to
+// the programs that make it.
 pub fn cut_panel<K: PointKind + Copy, P: Predictor, Q: Packing>(
     file: &[u8],
     tolerance: Option<u32>,
@@ -30,6 +31,22 @@ pub fn cut_panel<K: PointKind + Copy, P: Predictor, Q: Packing>(
     ensures placed { λ r. ⌜ made r (λ n. MisplacesNone (K·PointKind .kind) (Load (P·Predictor .means) (Q·Packing .means .reading) (now (file .entry)) ∷ Split tolerance ∷ Cut ∷ Close ∷ []) (take n (now (program .exit)))) ⌝ }
     ensures within { λ r. ⌜ made r (λ n. n ≤ length (now (program .exit))) ⌝ }
     ensures never { λ _. ⌜ No-run-misplaces-a-panel (K·PointKind .kind) ⌝ }
+{
+    no_run_misplaces::<K>();
+    four_calls::<K, P, Q>(file, tolerance, points, marks, program)
+}
+
+// The four calls, on a bench of their own.
+fn four_calls<K: PointKind + Copy, P: Predictor, Q: Packing>(
+    file: &[u8],
+    tolerance: Option<u32>,
+    points: &mut [K],
+    marks: &mut [u8],
+    program: &mut [u8],
+) -> Result<usize, Refusal>
+    ensures does { λ r. ⌜ onward (K·PointKind .kind) (untouched (now (points .entry)) (now (marks .entry)) (now (program .entry))) (Load (P·Predictor .means) (Q·Packing .means .reading) (now (file .entry))) (Split tolerance ∷ Cut ∷ Close ∷ []) ≡ sight (counted r) (now (points .exit)) (now (marks .exit)) (now (program .exit)) ⌝ }
+    ensures placed { λ r. ⌜ made r (λ n. MisplacesNone (K·PointKind .kind) (Load (P·Predictor .means) (Q·Packing .means .reading) (now (file .entry)) ∷ Split tolerance ∷ Cut ∷ Close ∷ []) (take n (now (program .exit)))) ⌝ }
+    ensures within { λ r. ⌜ made r (λ n. n ≤ length (now (program .exit))) ⌝ }
 {
     no_run_misplaces::<K>();
     let mut bench = Bench::<K>::new();

@@ -63,13 +63,6 @@ impl<K: PointKind> Bench<K> {
         }
     }
 
-    // How many bytes of the program list are the program.
-    pub fn program_length(&self) -> usize
-        ensures { λ r. ⌜ ((points : List K) (marks program : List ℕ) → r ≡ state (now (self .entry)) points marks program .size) ⌝ }
-    {
-        self.size
-    }
-
     // Loads a panel file into the front of the points, in the place of any panel before it.
     pub fn load<P: Predictor, Q: Packing>(
         &mut self,

@@ -4,7 +4,7 @@ use Rattle.law.specs.Calls.{no}
 use Rattle.bench.specs.States.{state, counted}
 use Rattle.bench.specs.Onward.{sight}
 use Rattle.bench.proofs.Onward.{exit, after-load, after-split, after-cut, after-close, placed}
-use Rattle.bench.proofs.cut_panel.Needs as need
+use Rattle.bench.proofs.four_calls.Needs as need
 
 pub returns-in-Break-load : need.returns-in-Break-load
 returns-in-Break-load g c =
@@ -18,7 +18,6 @@ returns-in-Break-load g c =
           ∙ ap (λ r. sight r (s1 .points) ms bs) (exit (c .from-residual .result) (p .0) (c .in-Break-load .field-0 .0) (p .1) (p .2));
       placed = made-from-err (c .from-residual .result) _ (c .from-residual .ensures .0);
       within = made-from-err (c .from-residual .result) _ (c .from-residual .ensures .0);
-      never = c .no-run-misplaces .ensures .never;
     }
 
 pub returns-in-Break-split : need.returns-in-Break-split
@@ -34,7 +33,6 @@ returns-in-Break-split g c =
           ∙ ap (λ r. sight r (s2 .points) (s2 .marks) bs) (exit (c .from-residual-in-Break-split .result) (p .0) (c .in-Break-split .field-0 .0) (p .1) (p .2));
       placed = made-from-err (c .from-residual-in-Break-split .result) _ (c .from-residual-in-Break-split .ensures .0);
       within = made-from-err (c .from-residual-in-Break-split .result) _ (c .from-residual-in-Break-split .ensures .0);
-      never = c .no-run-misplaces .ensures .never;
     }
 
 pub returns-in-Break-cut : need.returns-in-Break-cut
@@ -52,7 +50,6 @@ returns-in-Break-cut g c =
           ∙ ap (λ r. sight r (s3 .points) (s3 .marks) (s3 .program)) (exit (c .from-residual-in-Break-cut .result) (p .0) (c .in-Break-cut .field-0 .0) (p .1) (p .2));
       placed = made-from-err (c .from-residual-in-Break-cut .result) _ (c .from-residual-in-Break-cut .ensures .0);
       within = made-from-err (c .from-residual-in-Break-cut .result) _ (c .from-residual-in-Break-cut .ensures .0);
-      never = c .no-run-misplaces .ensures .never;
     }
 
 pub returns : need.returns
@@ -77,5 +74,4 @@ returns g c =
       does = after-close k m q (c .args .file .now) (c .args .tolerance) ps ms bs _ begins s1 _ loads s2 (counts .0) (counts .1) splits s3 _ cuts s4 (counted (c .close .result)) closes;
       placed = placed k m q (c .args .file .now) (c .args .tolerance) ps ms bs _ begins s1 _ loads s2 (counts .0) (counts .1) splits s3 _ cuts s4 (c .no-run-misplaces .ensures .never) (c .close .result) closes;
       within = c .close .ensures .within;
-      never = c .no-run-misplaces .ensures .never;
     }
