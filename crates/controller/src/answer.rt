@@ -25,7 +25,7 @@ pub struct RangeWords {
     pub upper: u32,
 }
 
-pub fn refused(why: Why, place: usize) -> Answer
+pub(crate) fn refused(why: Why, place: usize) -> Answer
     ensures { λ r. ⌜ r ≡ refusedAs why place ⌝ }
 {
     Answer {
@@ -38,7 +38,7 @@ pub fn refused(why: Why, place: usize) -> Answer
 }
 
 // Of a call that answers how many bytes it wrote.
-pub fn sized(said: Result<usize, Refusal>) -> Answer
+pub(crate) fn sized(said: Result<usize, Refusal>) -> Answer
     ensures { λ r. ⌜ r ≡ sizedAs said ⌝ }
 {
     match said {
@@ -54,7 +54,7 @@ pub fn sized(said: Result<usize, Refusal>) -> Answer
 }
 
 // Of a split: the kept count and the waiting count.
-pub fn counted(said: Result<(usize, usize), Why>) -> Answer
+pub(crate) fn counted(said: Result<(usize, usize), Why>) -> Answer
     ensures { λ r. ⌜ r ≡ countedAs said ⌝ }
 {
     match said {
