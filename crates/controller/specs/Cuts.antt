@@ -22,6 +22,7 @@ pub record Left (P : Type 0) : Type 0 where
   pub marks : List ℕ
   pub program : List ℕ
 
+-- an answer beside the three lists
 abbrev pub left : {P : Type 0} → Answer → List P → List ℕ → List ℕ → Left P
 left r ps ms bs = record { answer = r; points = ps; marks = ms; program = bs }
 

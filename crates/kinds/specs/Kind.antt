@@ -9,6 +9,7 @@ chosen x y z zero = x
 chosen x y z (suc zero) = y
 chosen x y z (suc (suc n)) = z
 
+-- a point kind: how many axes, how a point is made, what it tells on each axis, and the laws of that
 pub record KindMeaning (P : Type 0) : Type 0 where
   pub axes : ℕ
   pub make : ℤ → ℤ → ℤ → P

@@ -51,10 +51,12 @@ pub data Answer : Type 0 where
   two : ℕ → ℕ → Answer
   no : Refusal → Answer
 
+-- what a call leads to: the bench and lists after it, and its answer
 pub record Outcome (P : Type 0) : Type 0 where
   pub after : State P
   pub answer : Answer
 
+-- such an outcome
 abbrev pub outcome : {P : Type 0} → State P → Answer → Outcome P
 outcome s r = record { after = s; answer = r }
 
@@ -80,6 +82,7 @@ module _ {P : Type 0} (k : KindMeaning P) where
       outcome (record { stage = Loaded; count = x .count; size = s .size; points = placed k x ++ drop (x .count) (s .points); marks = s .marks; program = s .program }) (one (x .count))
   loaded s (Err e) = outcome s (no e)
 
+  -- a load at a stage
   abbrev pub load-at : Stage → State P → Result Panel Refusal → Outcome P
   load-at Empty s x = loaded s x
   load-at Loaded s x = loaded s x
@@ -93,6 +96,7 @@ module _ {P : Type 0} (k : KindMeaning P) where
       outcome (record { stage = Split; count = s .count; size = s .size; points = s .points; marks = marked (treeOf k t (s .count) (take (s .count) (s .points))) (ends (s .count) (s .marks)); program = s .program })
       (two (2 + keptIn (treeOf k t (s .count) (take (s .count) (s .points)))) (waits (treeOf k t (s .count) (take (s .count) (s .points)))))
 
+  -- a split at a stage
   abbrev pub split-at : Stage → State P → ℕ → Outcome P
   split-at Empty s t = refused s TooEarly
   split-at Loaded s t = split-by (whyNot k t (s .count) (s .points) (s .marks)) s t
@@ -115,19 +119,23 @@ module _ {P : Type 0} (k : KindMeaning P) where
   append s stage bytes =
       outcome (record { stage = stage; count = s .count; size = s .size + length bytes; points = s .points; marks = s .marks; program = overwritten (s .program) (s .size) bytes }) (one (s .size + length bytes))
 
+  -- a cut, unless a reason speaks against it
   abbrev pub cut-by : Option Why → State P → Outcome P
   cut-by (Some w) s = refused s w
   cut-by None s = append s Split (drawn s)
 
+  -- a cut at a stage
   abbrev pub cut-at : Stage → State P → Outcome P
   cut-at Empty s = refused s TooEarly
   cut-at Loaded s = refused s TooEarly
   cut-at Split s = cut-by (why-cut s) s
   cut-at Closed s = refused s AlreadyClosed
 
+  -- close: the finish is appended, if there is a byte for it
   abbrev pub finished : State P → Outcome P
   finished s = cond (ltb (s .size) (length (s .program))) (append s Closed finish) (refused s NoSpace)
 
+  -- a close at a stage
   abbrev pub close-at : Stage → State P → Outcome P
   close-at Empty s = finished s
   close-at Loaded s = finished s

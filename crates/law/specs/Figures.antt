@@ -45,6 +45,7 @@ calls =
     cut ∷ load lag1 (plain .reading) straight ∷ split None ∷ cut
     ∷ split (Some 257) ∷ load lag1 (fielded .reading) hook ∷ split None ∷ cut ∷ close ∷ cut ∷ []
 
+-- a flat point
 abbrev pub point : ℕ → ℕ → Flat
 point x y = record { x = pos x; y = pos y }
 

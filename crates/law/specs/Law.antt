@@ -54,9 +54,11 @@ Reads-once = (axes : ℕ) (program : List ℕ) (cs ds : List Chain) (e f : Bool)
 abbrev pub beginOf : Chain → ℕ → List ℤ
 beginOf c n = getD (c .from ∷ c .strokes) n []
 
+-- where it ends
 abbrev pub endOf : Chain → ℕ → List ℤ
 endOf c n = getD (c .strokes) n []
 
+-- the step on axis j
 abbrev pub on : List ℤ → ℕ → ℤ
 on zs j = getD zs j (pos 0)
 

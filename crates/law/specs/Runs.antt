@@ -15,6 +15,7 @@ module _ {P : Type 0} (k : KindMeaning P) where
   run s [] = s
   run s (c ∷ cs) = run (step k s c .after) cs
 
+  -- a call is noted if its answer is no refusal
   abbrev pub noted : Call → Answer → List Call → List Call
   noted c (one n) cs = c ∷ cs
   noted c (two m n) cs = c ∷ cs
@@ -36,6 +37,7 @@ pub record Cut : Type 0 where
   pub panel : Load
   pub tolerance : ℕ
 
+-- a cut after such a latest load and split
 abbrev pub cutOf : Option Load → Option ℕ → Option Cut
 cutOf None t = None
 cutOf (Some l) None = None
@@ -49,6 +51,7 @@ cutsAfter l t (split u ∷ cs) = cutsAfter l (Some (tolerance u)) cs
 cutsAfter l t (cut ∷ cs) = cutOf l t ∷ cutsAfter l t cs
 cutsAfter l t (close ∷ cs) = cutsAfter l t cs
 
+-- the cuts of a list of accepted calls on a new bench
 abbrev pub cuts : List Call → List (Option Cut)
 cuts cs = cutsAfter None None cs
 

@@ -38,6 +38,7 @@ pub record Fault : Type 0 where
   pub place : ℕ
   pub found : Bool
 
+-- such a fault
 abbrev pub fault : Why → ℕ → Bool → Fault
 fault w at b = record { why = w; place = at; found = b }
 

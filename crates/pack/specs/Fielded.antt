@@ -175,6 +175,7 @@ fielded-short xs words =
     let most : length fs * w ≤ length fs * 32 = mul-le-mul-left (length fs) (narrow-width xs words) in
     omega arith
 
+-- packing 1
 abbrev pub fielded : PackingMeaning
 fielded = record {
   reading = record {

@@ -95,6 +95,7 @@ plain-refusals n body r =
 pub plain-back : (xs : List ℤ) → All Word xs → plain-reads (length xs) (spelled xs) ≡ numbers xs
 plain-back xs all = rw (eq-eqb _ _ (length-spelled xs)) (ap numbers (words-spelled xs all))
 
+-- packing 0
 abbrev pub plain : PackingMeaning
 plain = record {
   reading = record {

@@ -54,6 +54,7 @@ abbrev pub scaled : ℕ → ℕ → Float → Float → Option Why → Result Sc
 scaled at b l u None = Ok (scaleFrom b l u)
 scaled at b l u (Some e) = refuse e at
 
+-- the scale of such bits and ends, or why there is none
 abbrev pub scaledBy : ℕ → ℕ → Float → Float → Result Scale Refusal
 scaledBy at b l u = scaled at b l u (refusal b l u)
 
@@ -74,6 +75,7 @@ unfoldable pub allCodes : Scale → List ℤ → Bool
 allCodes s [] = true
 allCodes s (c ∷ cs) = isCode s c && allCodes s cs
 
+-- codes, if each is one of the scale
 abbrev pub coded : ℕ → Scale → List ℤ → Result (List ℤ) Refusal
 coded at s cs = cond (allCodes s cs) (Ok cs) (refuse Code at)
 
@@ -99,6 +101,7 @@ module _ (m : PredictorMeaning) (q : ReadingMeaning) (n : ℕ) where
       andThen (bodyAt (r .1 + 15) s len (drop 15 (r .0))) (λ cs.
       Ok (record { scale = s; codes = cs }, (drop (15 + len) (r .0), r .1 + (15 + len))))))
 
+  -- one axis before the others
   abbrev pub more : Axis → Result (List Axis × Rest) Refusal → Result (List Axis × Rest) Refusal
   more x (Ok y) = Ok (x ∷ y .0, y .1)
   more x (Err e) = Err e

@@ -8,10 +8,12 @@ use Rattle.kinds.specs.Kind.{KindMeaning}
 use Rattle.range.specs.Scale.{Scale, scaleOf, inside, codeIn}
 use Rattle.range.specs.declared.range.Range.{Range}
 
+-- an axis of a panel: its scale, and the code of each vertex
 pub record Axis : Type 0 where
   pub scale : Scale
   pub codes : List ℤ
 
+-- a panel: how many vertices, and its axes
 pub record Panel : Type 0 where
   pub count : ℕ
   pub axes : List Axis
@@ -27,6 +29,7 @@ module _ {P : Type 0} (k : KindMeaning P) where
   codesOn a s [] = []
   codesOn a s (p ∷ ps) = codeIn s (k .coordinate p a) ∷ codesOn a s ps
 
+  -- axis a of the design points, by a range
   abbrev pub axisOn : List P → ℕ → Range → Axis
   axisOn ps a g = record { scale = scaleOf g; codes = codesOn a (scaleOf g) ps }
 
@@ -35,6 +38,7 @@ module _ {P : Type 0} (k : KindMeaning P) where
   axesFrom ps a [] = []
   axesFrom ps a (g ∷ gs) = axisOn ps a g ∷ axesFrom ps (a + 1) gs
 
+  -- every design point lies in the ranges of the axes from a on
   unfoldable pub insideFrom : List P → ℕ → List Range → Bool
   insideFrom ps a [] = true
   insideFrom ps a (g ∷ gs) = insideOn a (scaleOf g) ps && insideFrom ps (a + 1) gs

@@ -34,5 +34,6 @@ module _ {P : Type 0} (k : KindMeaning P) where
   filled (Ok x) old = (Ok (x .count), placed x ++ drop (x .count) old)
   filled (Err e) old = (Err e, old)
 
+  -- a load of a file into a point list
   abbrev pub loadOf : PredictorMeaning → ReadingMeaning → List ℕ → List P → Result ℕ Refusal × List P
   loadOf m q file old = filled (judged m q (k .axes) (length old) file) old

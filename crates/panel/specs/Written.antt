@@ -33,12 +33,15 @@ module _ (m : PredictorMeaning) (q : PackingMeaning) where
   abbrev pub bodyOf : List ℤ → List ℕ
   bodyOf codes = q .writes (residues m codes)
 
+  -- V, and the body
   abbrev pub withLength : List ℕ → List ℕ
   withLength body = lengthPiece (length body) ++ body
 
+  -- Q, V and the body of an axis
   unfoldable pub axisBytes : Axis → List ℕ
   axisBytes x = rangePiece (x .scale) ++ withLength (bodyOf (x .codes))
 
+  -- the pieces after N
   abbrev pub restBytes : List Axis → List ℕ
   restBytes xs = joined axisBytes xs ++ endPiece
 

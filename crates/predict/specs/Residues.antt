@@ -37,5 +37,6 @@ valuesFrom m i b (r ∷ rs) = restored m i b r ∷ valuesFrom m (i + 1) (after b
 abbrev pub residues : PredictorMeaning → List ℤ → List ℤ
 residues m xs = residuesFrom m 0 start xs
 
+-- the entries of a whole list again
 abbrev pub values : PredictorMeaning → List ℤ → List ℤ
 values m rs = valuesFrom m 0 start rs

@@ -27,5 +27,6 @@ Ends-judged =
     × (refusal 4 (ofBits binary32 0) (ofBits binary32 0x7fc0_0000) ≡ Some End) × (refusal 25 (ofBits binary32 0) (ofBits binary32 0x7fc0_0000) ≡ Some Bits)
     × (refusal 4 (ofBits binary32 0x8000_0000) (ofBits binary32 0) ≡ Some Order) × (refusal 4 (ofBits binary32 0) (ofBits binary32 0x3b00_0000) ≡ Some End)
 
+-- the figures of ranges, codes and places
 abbrev pub Figures : Type 0
 Figures = Sixteen-mm × Halfway × Ends-judged

@@ -10,5 +10,6 @@ abbrev pub digits : ℕ → ℕ → List ℕ
 digits zero n = []
 digits (suc k) n = (48 + n / 10 ^ k % 10) ∷ digits k n
 
+-- the line of a refusal
 abbrev pub lineOf : Refusal → List ℕ
 lineOf e = codes "refused " ++ (digits 2 (numberOf (e .why)) ++ (codes " at " ++ (digits 5 (e .place) ++ codes "\n")))

@@ -3,6 +3,7 @@ use Prim.Native.Nat.{ℕ}
 use Rattle.refusal.specs.declared.Why.{Why}
 use Rattle.refusal.specs.declared.Why.the-variants.{AlreadyClosed, TooEarly, Tolerance, Truncated, Letter, AxisCount, PredictorByte, PackingByte, VertexCount, ShortList, Unfit, Bits, End, Order, BodyLength, SpareBits, Code, Trailing, OutOfRange, NoSpace}
 
+-- 1 to 20
 abbrev pub numberOf : Why → ℕ
 numberOf AlreadyClosed = 1
 numberOf TooEarly = 2

@@ -24,6 +24,7 @@ weighs A B P = weight (told flat (A ∷ B ∷ P ∷ [])) 0 1 2
 abbrev pub line : List Flat
 line = point (pos 0) (pos 0) ∷ point (pos 2) (pos 3) ∷ point (pos 4) (pos 0) ∷ point (pos 6) (pos 1) ∷ point (pos 8) (pos 0) ∷ []
 
+-- the figures of weights and of a split
 pub record Figures : Type 0 where
   -- beside the chord from (0, 0) to (10, 4), past its end and before its beginning
   pub beside : weighs (point (pos 0) (pos 0)) (point (pos 10) (pos 4)) (point (pos 5) (pos 3)) ≡ 10
