@@ -15,10 +15,6 @@ impl<'a> Reader<'a> {
         self.rest.is_empty()
     }
 
-    pub fn left(&self) -> usize {
-        self.rest.len()
-    }
-
     pub fn byte(&mut self) -> Result<u8, AnyError> {
         let [a, rest @ ..] = self.rest else {
             return Err("the corpus ends inside a record".into());
