@@ -1,4 +1,6 @@
 // The cutting bench: it loads panel files, splits their seams, and writes cut programs through a knife.
+#![tactic(auto)]
+
 ghost use Rattle.std.specs.Prelude.{◌≡◌, ◌≤◌, [], ◌∷◌, length, take, IfOk};
 ghost use Rattle.law.specs.Calls.{new as untouched, load as Load, split as Split, cut as Cut, close as Close};
 ghost use Rattle.law.specs.Law.{MisplacesNone, NoRunMisplacesAPanel};

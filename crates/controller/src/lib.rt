@@ -1,4 +1,6 @@
 // The table's calls for a controller in C: plain numbers and lent lists in, plain numbers out. Nothing is kept between calls.
+#![tactic(auto)]
+
 ghost use Rattle.std.specs.Prelude.{◌≡◌, [], ◌∷◌, length};
 ghost use Rattle.kinds.specs.Models.{flat, mould};
 ghost use Rattle.seam.specs.Seam.{split_of};

@@ -1,4 +1,6 @@
 // Holds the library to the stored corpus, whose expected answers another program made, and names each case that differs.
+#![tactic(auto)]
+
 mod calls;
 mod reader;
 mod run;

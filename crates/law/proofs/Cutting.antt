@@ -9,7 +9,7 @@ use Rattle.seam.specs.Ones.{ones}
 use Rattle.seam.specs.Seam.{all_close_by}
 use Rattle.panel.specs.Panel.{Panel, panel_of}
 use Rattle.panel.specs.Placed.{place_at, vertex, placed}
-use Rattle.std.specs.List.{AllByRecursion as All}
+use Rattle.std.specs.List.{AllByRecursion}
 use Rattle.std.proofs.ByRecursion.{All-map}
 use Rattle.law.specs.Program.{Chain, steps, through as through-all}
 use Rattle.law.specs.Calls.{kept}
@@ -103,8 +103,8 @@ module _ {P : Type 0} (k : KindMeaning P) (w : Cut) (x : Panel) (meant : Meant k
   pub whole : all_close_by (told k (placed k x)) ≡ true → Whole k.axes chain_of
   unfolding must_keep
   whole near =
-      let all : All (Steps k.axes) (chain_of.from ∷ chain_of.strokes) =
-      subst (All (Steps k.axes)) (sym is) (All-map (Steps k.axes) (steps k) (kept (marks_of k w.tolerance x) (placed k x))
+      let all : AllByRecursion (Steps k.axes) (chain_of.from ∷ chain_of.strokes) =
+      subst (AllByRecursion (Steps k.axes)) (sym is) (All-map (Steps k.axes) (steps k) (kept (marks_of k w.tolerance x) (placed k x))
       (all-kept (λ p. Steps k.axes (steps k p)) (marks_of k w.tolerance x) (placed k x) (all-steps k (placed k x) near))) in
       record { travel = all.0; some = some-strokes k w.tolerance x many chain_of is; each = all.1 }
 

@@ -1,7 +1,7 @@
 -- A program is read in one way at most.
 use Rattle.std.proofs.Common.{◌≡◌, ℕ, ◌+◌, ◌*◌, Bool, true, false, cond, List, [], ◌∷◌, ◌++◌, length, ℤ, sym, refl, ap, ◌∙◌, ap₂, arith, w32, to_z, of_z}
 use mir.Facts.{Fits-of_z}
-use Rattle.std.specs.List.{flat_map, AllByRecursion as All}
+use Rattle.std.specs.List.{flat_map, AllByRecursion}
 use Rattle.std.proofs.lemmas.List.{append_assoc}
 use Rattle.std.proofs.lemmas.Int.{to_z-of_z}
 use Rattle.predict.specs.Wrap.{Word}
@@ -30,7 +30,7 @@ word-once z w a b e =
     let f : of_z w32 z ≡ of_z w32 w = sym (four (of_z w32 z) (Fits-of_z a).fits) ∙ ap (λ (bs : List ℕ). word bs 0) e ∙ four (of_z w32 w) (Fits-of_z b).fits in
     sym (to_z-of_z w32 z a) ∙ ap (to_z w32) f ∙ to_z-of_z w32 w b
 
-spelled-once : (zs ws : List ℤ) → length zs ≡ length ws → All Word zs → All Word ws → spelled zs ≡ spelled ws → zs ≡ ws
+spelled-once : (zs ws : List ℤ) → length zs ≡ length ws → AllByRecursion Word zs → AllByRecursion Word ws → spelled zs ≡ spelled ws → zs ≡ ws
 spelled-once [] [] h a b e = refl
 spelled-once [] (w ∷ ws) h a b e = absurd (omega arith)
 spelled-once (z ∷ zs) [] h a b e = absurd (omega arith)
@@ -48,7 +48,7 @@ module _ (axes : ℕ) where
   abbrev stroke_bytes : List (List ℤ) → List ℕ → List ℕ
   stroke_bytes bs us = flat_map stroke bs ++ (0x55 ∷ us)
 
-  strokes-once : (cs bs : List (List ℤ)) (us vs : List ℕ) → All (Steps axes) cs → All (Steps axes) bs → stroke_bytes cs us ≡ stroke_bytes bs vs → (cs ≡ bs) × (us ≡ vs)
+  strokes-once : (cs bs : List (List ℤ)) (us vs : List ℕ) → AllByRecursion (Steps axes) cs → AllByRecursion (Steps axes) bs → stroke_bytes cs us ≡ stroke_bytes bs vs → (cs ≡ bs) × (us ≡ vs)
   strokes-once [] [] us vs a b e = (refl, cc)
   strokes-once [] (y ∷ bs) us vs a b e = let z : ◌≡◌ {A = ℕ} 0x55 0x4B = cc in absurd (omega arith)
   strokes-once (x ∷ cs) [] us vs a b e = let z : ◌≡◌ {A = ℕ} 0x4B 0x55 = cc in absurd (omega arith)
@@ -88,7 +88,7 @@ module _ (axes : ℕ) where
   no-chain true d us h = let f = h ∙ chain-spread d us in let z : ◌≡◌ {A = ℕ} 0x45 0x54 = cc in omega arith
   no-chain false d us h = let f = h ∙ chain-spread d us in let z : ◌≡◌ {A = ℕ} 0 1 = cc in omega arith
 
-  chains-once : (cs ds : List Chain) (e f : Bool) → All (Whole axes) cs → All (Whole axes) ds → program_bytes cs e ≡ program_bytes ds f → (cs ≡ ds) × (e ≡ f)
+  chains-once : (cs ds : List Chain) (e f : Bool) → AllByRecursion (Whole axes) cs → AllByRecursion (Whole axes) ds → program_bytes cs e ≡ program_bytes ds f → (cs ≡ ds) × (e ≡ f)
   chains-once [] [] e f a b h = (refl, finish-once e f h)
   chains-once [] (d ∷ ds) e f a b h = absurd (no-chain e d (program_bytes ds f) (h ∙ append_assoc (chain_bytes d) (flat_map chain_bytes ds) (cond f finish [])))
   chains-once (c ∷ cs) [] e f a b h = absurd (no-chain f c (program_bytes cs e) (sym h ∙ append_assoc (chain_bytes c) (flat_map chain_bytes cs) (cond e finish [])))

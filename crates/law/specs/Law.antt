@@ -1,7 +1,7 @@
 -- No list of calls takes a new bench to a program that misplaces a panel.
 use Rattle.std.specs.Prelude.{◌≡◌, ℕ, ◌+◌, ◌-◌, ◌*◌, ◌<◌, ◌≤◌, Bool, List, [], ◌∷◌, map, length, take, replicate, ℤ, pos, ◌-ℤ◌, ◌*ℤ◌, Some, None, Ok, Option, slice_index_or, unsigned_abs}
 use Rattle.std.specs.Float.{nan}
-use Rattle.std.specs.List.{AllByRecursion as All}
+use Rattle.std.specs.List.{AllByRecursion}
 use Rattle.kinds.specs.Kind.{KindMeaning}
 use Rattle.kinds.specs.Vertex.{Vertex, at, told}
 use Rattle.predict.specs.Wrap.{Word}
@@ -23,17 +23,17 @@ use Rattle.law.specs.Runs.{run, accepted, Load, Cut, cuts, closes}
 
 -- the steps of a T or a K: a signed 32-bit number for each axis
 abbrev pub Steps : ℕ → List ℤ → Type 0
-Steps axes zs = (length zs ≡ axes) × All Word zs
+Steps axes zs = (length zs ≡ axes) × AllByRecursion Word zs
 
 -- a chain is T, D, one or more K, U
 pub record Whole (axes : ℕ) (c : Chain) : Type 0 where
   pub travel : Steps axes c.from
   pub some : 1 ≤ length c.strokes
-  pub each : All (Steps axes) c.strokes
+  pub each : AllByRecursion (Steps axes) c.strokes
 
 -- chains, then the finish or not, and nothing else
 pub record Reads (axes : ℕ) (program : List ℕ) (chains : List Chain) (finished : Bool) : Type 0 where
-  pub wholes : All (Whole axes) chains
+  pub wholes : AllByRecursion (Whole axes) chains
   pub bytes : program ≡ program_bytes chains finished
 
 -- a program is read in one way at most

@@ -1,6 +1,6 @@
 -- What reading a file comes to at each of its exits. Assumes nothing.
 use Rattle.std.proofs.Common.{◌≡◌, ℕ, zero, suc, ◌+◌, ◌-◌, ◌≤◌, Bool, true, false, cond, eqb, ltb, List, [], ◌∷◌, ◌++◌, length, get_or, take, drop, ℤ, is_ok, Ok, Err, Result, sym, refl, ap, ◌∙◌, subst, arith}
-use Rattle.std.specs.List.{AllByRecursion as All}
+use Rattle.std.specs.List.{AllByRecursion}
 use Rattle.std.proofs.lemmas.List.{take_rest}
 use Rattle.std.proofs.lemmas.Bool.{cond_both, ltb-false}
 use Rattle.refusal.specs.declared.Why.TheVariants.{Truncated, Letter, AxisCount, PredictorByte, PackingByte, VertexCount, ShortList}
@@ -43,7 +43,7 @@ module _ (m : PredictorMeaning) (q : ReadingMeaning) (n : ℕ) where
   Long (Err e) = Unit {0}
 
   abbrev Full : ℕ → Result (List Axis × Rest) Refusal → Type 0
-  Full j (Ok y) = (length y.0 ≡ j) × All (λ x. length x.codes ≡ n) y.0
+  Full j (Ok y) = (length y.0 ≡ j) × AllByRecursion (λ x. length x.codes ≡ n) y.0
   Full j (Err e) = Unit {0}
 
   undone-sized : (at : ℕ) (s : Scale) (body : List ℕ) (r : Reading) → q.reads n body ≡ r → Sized (undone m q n at s r)

@@ -1,6 +1,6 @@
 -- Points placed axis by axis are the panel's. Assumes nothing.
 use Rattle.std.proofs.Common.{◌≡◌, ℕ, zero, suc, ◌+◌, ◌-◌, ◌<◌, ◌≤◌, List, [], ◌∷◌, ◌++◌, map, length, get_or, drop, ℤ, pos, sym, refl, ap, ◌∙◌, ⊎_elim, arith, length-append, length-drop}
-use Rattle.std.specs.List.{AllByRecursion as All, range_with_len}
+use Rattle.std.specs.List.{AllByRecursion, range_with_len}
 use Rattle.std.proofs.lemmas.List.{same_lists, get_or_append_left, get_or-append_right, get_or-drop}
 use Rattle.std.proofs.lemmas.List.FromFn.{length-map-range_with_len, get_or-map-range_with_len}
 use Rattle.std.proofs.lemmas.Bool.{cases_lt}
@@ -45,7 +45,7 @@ module _ {P : Type 0} (k : KindMeaning P) where
   thrice : (v w u : ℤ) (p : P) → k.axes ≡ 3 → moved k 2 u (moved k 1 w (moved k 0 v p)) ≡ k.make v w u
   thrice v w u p e = same3 _ v _ w u u (k.told _ w _ 0 (omega arith) ∙ k.told v _ _ 0 (omega arith)) (k.told _ w _ 1 (omega arith)) refl
 
-  each : (xs : List Axis) (n : ℕ) (old : List P) (i : ℕ) (d : P) → length xs ≡ k.axes → All (λ x. length x.codes ≡ n) xs → n ≤ length old → i < n →
+  each : (xs : List Axis) (n : ℕ) (old : List P) (i : ℕ) (d : P) → length xs ≡ k.axes → AllByRecursion (λ x. length x.codes ≡ n) xs → n ≤ length old → i < n →
       get_or (fill_from k 0 xs old) i d ≡ vertex k (record { count = n; axes = xs }) i
   unfolding fill_from place_at
   each [] n old i d count long room lt = absurd (omega (arith, k.some_axis))
@@ -73,12 +73,12 @@ module _ {P : Type 0} (k : KindMeaning P) where
   length-fills a [] old = refl
   length-fills a (x ∷ xs) old = length-fills (a + 1) xs (fill_on k a x.scale x.codes old) ∙ length-fill_on a x.scale x.codes old
 
-  past : (a : ℕ) (xs : List Axis) (n : ℕ) (old : List P) (i : ℕ) (d : P) → All (λ x. length x.codes ≡ n) xs → n ≤ i → get_or (fill_from k a xs old) i d ≡ get_or old i d
+  past : (a : ℕ) (xs : List Axis) (n : ℕ) (old : List P) (i : ℕ) (d : P) → AllByRecursion (λ x. length x.codes ≡ n) xs → n ≤ i → get_or (fill_from k a xs old) i d ≡ get_or old i d
   unfolding fill_from
   past a [] n old i d long ge = refl
   past a (x ∷ xs) n old i d long ge = past (a + 1) xs n (fill_on k a x.scale x.codes old) i d long.1 ge ∙ over-past a x.scale x.codes old i d (omega (arith, long.0))
 
-  pub points-are : (xs : List Axis) (n : ℕ) (old : List P) → length xs ≡ k.axes → All (λ x. length x.codes ≡ n) xs → n ≤ length old →
+  pub points-are : (xs : List Axis) (n : ℕ) (old : List P) → length xs ≡ k.axes → AllByRecursion (λ x. length x.codes ≡ n) xs → n ≤ length old →
       fill_from k 0 xs old ≡ placed k (record { count = n; axes = xs }) ++ drop n old
   unfolding placed
   points-are xs n old count long room =

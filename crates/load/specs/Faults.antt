@@ -1,7 +1,7 @@
 -- The faults that a piece of a file can have, how far the reader of a file comes, and that the first fault is told.
 use Rattle.std.specs.Prelude.{◌≡◌, ℕ, zero, suc, ◌+◌, ◌≤◌, Bool, true, false, not, ◌&&◌, ◌||◌, ◌⊎◌, List, [], ◌∷◌, length, take, drop, Ok, Err, Result, ◌==◌, from_bits, int_lt, nat_le, nat_lt, slice_index}
 use Rattle.std.specs.Float.{binary32}
-use Rattle.std.specs.List.{AllByRecursion as All}
+use Rattle.std.specs.List.{AllByRecursion}
 use Rattle.refusal.specs.Numbers.{number_of}
 use Rattle.refusal.specs.declared.Why.{Why}
 use Rattle.refusal.specs.declared.Why.TheVariants.{Truncated, Letter, AxisCount, PredictorByte, PackingByte, VertexCount, ShortList, Bits, End, Order, BodyLength, SpareBits, Code, Trailing}
@@ -54,7 +54,7 @@ Has (f ∷ fs) w at = ((f.found ≡ true) × (f.why ≡ w) × (f.place ≡ at)) 
 
 -- none of these faults is found
 abbrev pub Sound : List Fault → Type 0
-Sound fs = All (λ f. f.found ≡ false) fs
+Sound fs = AllByRecursion (λ f. f.found ≡ false) fs
 
 -- what is due where so many axes are left
 abbrev pub axes_due : ℕ → ℕ → Due

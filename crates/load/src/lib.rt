@@ -1,4 +1,6 @@
 // Loads a panel file into points: judges the whole file, then places its vertices.
+#![tactic(auto)]
+
 mod judge;
 mod piece;
 mod place;

@@ -5,7 +5,7 @@ use Prim.Native.Nat.pow
 use Rattle.std.proofs.Math.Nat.{pow-zero, mul-mod_left}
 use borrow.Author.Differences.{abs_is}
 use Rattle.std.specs.Int.{int_min, int_wrap, w32}
-use Rattle.std.specs.List.{AllByRecursion as All}
+use Rattle.std.specs.List.{AllByRecursion}
 use Rattle.std.specs.Int.Digits.{digits_of, number_from_digits, AllBelowBase}
 use Rattle.std.proofs.ByRecursion.{all-has, folded_min_z_bounds, folded_min_z_reached}
 use Rattle.std.proofs.lemmas.List.{length-map}
@@ -64,12 +64,12 @@ gap-small b x v w h = omega (arith, ints, abs_is (x -ℤ b))
 entry-back : (b x : ℤ) → Word x → b ≤ℤ x → b ⊞ pos (gap b x) ≡ x
 entry-back b x w h = ap (int_wrap w32) (gap_back b x h) ∙ int_wrap_fits w32 x w
 
-gaps-back : (b : ℤ) (xs : List ℤ) → All Word xs → All (λ x. b ≤ℤ x) xs → map (λ f. b ⊞ pos f) (map (gap b) xs) ≡ xs
+gaps-back : (b : ℤ) (xs : List ℤ) → AllByRecursion Word xs → AllByRecursion (λ x. b ≤ℤ x) xs → map (λ f. b ⊞ pos f) (map (gap b) xs) ≡ xs
 gaps-back b [] words low = refl
 gaps-back b (x ∷ xs) words low =
     ap₂ (λ (y : ℤ) (ys : List ℤ). y ∷ ys) (entry-back b x words.0 low.0) (gaps-back b xs words.1 low.1)
 
-pub gaps-small : (b : ℤ) (xs : List ℤ) → Word b → All Word xs → All (λ x. b ≤ℤ x) xs → greatest (map (gap b) xs) < 2 ^ 32
+pub gaps-small : (b : ℤ) (xs : List ℤ) → Word b → AllByRecursion Word xs → AllByRecursion (λ x. b ≤ℤ x) xs → greatest (map (gap b) xs) < 2 ^ 32
 gaps-small b [] v words low = lit< tt
 gaps-small b (x ∷ xs) v words low =
     let here = gap-small b x v words.0 low.0 in
@@ -90,19 +90,19 @@ greatest-under (f ∷ fs) m h all = let rest = greatest-under fs m h all.1 in le
 pub width-least : (fs : List ℕ) (v : ℕ) → AllBelowBase (2 ^ v) fs → width_of fs ≤ v
 width-least fs v all = length-digits_of-le 2 v (greatest fs) (lit≤ tt) (greatest-under fs (2 ^ v) (pow_pos v) all)
 
-pub least-low : (xs : List ℤ) → All (λ x. least xs ≤ℤ x) xs
+pub least-low : (xs : List ℤ) → AllByRecursion (λ x. least xs ≤ℤ x) xs
 least-low [] = tt
 least-low (x ∷ xs) = folded_min_z_bounds x xs (fold int_min x xs) refl
 
-pub least-word : (xs : List ℤ) → All Word xs → Word (least xs)
+pub least-word : (xs : List ℤ) → AllByRecursion Word xs → Word (least xs)
 least-word [] words = record { sfits = lit< tt }
 least-word (x ∷ xs) words =
     ⊎_elim (λ e. subst Word (sym e) words.0) (λ has. all-has Word xs _ words.1 has) (folded_min_z_reached x xs (fold int_min x xs) refl)
 
-pub narrow-width : (xs : List ℤ) → All Word xs → width_of (map (gap (least xs)) xs) ≤ 32
+pub narrow-width : (xs : List ℤ) → AllByRecursion Word xs → width_of (map (gap (least xs)) xs) ≤ 32
 narrow-width xs words = length-digits_of-le 2 32 _ (lit≤ tt) (gaps-small (least xs) xs (least-word xs words) words (least-low xs))
 
-pub fielded-back : (xs : List ℤ) → All Word xs → fielded_reads (length xs) (fielded_writes xs) ≡ numbers xs
+pub fielded-back : (xs : List ℤ) → AllByRecursion Word xs → fielded_reads (length xs) (fielded_writes xs) ≡ numbers xs
 fielded-back xs words =
     let b = least xs in
     let fs = map (gap b) xs in
@@ -129,7 +129,7 @@ by_read n body Q length-no spare-no list =
 no-list : {A : Type 0} (r : Why) (xs : List ℤ) → refused r ≡ numbers xs → A
 no-list r xs e = let z : ◌≡◌ {A = ℕ} 0 1 = cc in absurd (omega arith)
 
-all-wrapped : (b : ℤ) (fs : List ℕ) → All Word (map (λ f. b ⊞ pos f) fs)
+all-wrapped : (b : ℤ) (fs : List ℕ) → AllByRecursion Word (map (λ f. b ⊞ pos f) fs)
 all-wrapped b [] = tt
 all-wrapped b (f ∷ fs) = (SFits-int_wrap w32 (b +ℤ pos f), all-wrapped b fs)
 
@@ -145,17 +145,17 @@ module _ (n : ℕ) (body : List ℕ) where
       by_read n body (λ r. r ≡ numbers xs → length xs ≡ n) (no-list BodyLength xs) (no-list SpareBits xs)
       (λ _ _ _ _ e. let same : list ≡ xs = cc in ap length (sym same) ∙ length-map found (λ f. le_word body ⊞ pos f) ∙ length_digits _ n _)
 
-  pub fielded-words : (xs : List ℤ) → fielded_reads n body ≡ numbers xs → All Word xs
+  pub fielded-words : (xs : List ℤ) → fielded_reads n body ≡ numbers xs → AllByRecursion Word xs
   fielded-words xs =
-      by_read n body (λ r. r ≡ numbers xs → All Word xs) (no-list BodyLength xs) (no-list SpareBits xs)
-      (λ _ _ _ _ e. let same : list ≡ xs = cc in subst (All Word) same (all-wrapped (le_word body) found))
+      by_read n body (λ r. r ≡ numbers xs → AllByRecursion Word xs) (no-list BodyLength xs) (no-list SpareBits xs)
+      (λ _ _ _ _ e. let same : list ≡ xs = cc in subst (AllByRecursion Word) same (all-wrapped (le_word body) found))
 
   pub fielded-refusals : (r : Why) → fielded_reads n body ≡ refused r → (r ≡ BodyLength) ⊎ (r ≡ SpareBits)
   fielded-refusals r =
       by_read n body (λ o. o ≡ refused r → (r ≡ BodyLength) ⊎ (r ≡ SpareBits)) (λ e. inl (cc)) (λ e. inr (cc))
       (λ _ _ _ _ e. let z : ◌≡◌ {A = ℕ} 0 1 = cc in absurd (omega arith))
 
-pub fielded-short : (xs : List ℤ) → All Word xs → length (fielded_writes xs) ≤ 8 + 4 * length xs
+pub fielded-short : (xs : List ℤ) → AllByRecursion Word xs → length (fielded_writes xs) ≤ 8 + 4 * length xs
 fielded-short xs words =
     let fs = map (gap (least xs)) xs in
     let w = width_of fs in

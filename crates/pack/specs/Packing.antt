@@ -1,6 +1,6 @@
 -- What a packing is: a way to write a list of 32-bit numbers as bytes, and to read it again.
 use Rattle.std.specs.Prelude.{◌≡◌, ℕ, ◌+◌, ◌*◌, ◌<◌, ◌≤◌, Bool, cond, ◌⊎◌, List, [], length, ℤ, pos, Ok, Err, Result, slice_index_or}
-use Rattle.std.specs.List.{AllByRecursion as All}
+use Rattle.std.specs.List.{AllByRecursion}
 use Rattle.refusal.specs.declared.Why.{Why}
 use Rattle.refusal.specs.declared.Why.TheVariants.{BodyLength, SpareBits}
 use Rattle.predict.specs.Wrap.{Word}
@@ -44,12 +44,12 @@ pub record ReadingMeaning : Type 0 where
   pub reads : ℕ → List ℕ → Reading
   pub byte : number < 256
   pub counts : (n : ℕ) (body : List ℕ) (xs : List ℤ) → reads n body ≡ numbers xs → length xs ≡ n
-  pub words : (n : ℕ) (body : List ℕ) (xs : List ℤ) → reads n body ≡ numbers xs → All Word xs
+  pub words : (n : ℕ) (body : List ℕ) (xs : List ℤ) → reads n body ≡ numbers xs → AllByRecursion Word xs
   pub refusals : (n : ℕ) (body : List ℕ) (why : Why) → reads n body ≡ refused why → (why ≡ BodyLength) ⊎ (why ≡ SpareBits)
 
 -- And as a writer knows it: the body of a list, at most 8 bytes and 4 for each entry, which is accepted and means that list.
 pub record PackingMeaning : Type 0 where
   pub reading : ReadingMeaning
   pub writes : List ℤ → List ℕ
-  pub short : (xs : List ℤ) → All Word xs → length (writes xs) ≤ 8 + 4 * length xs
-  pub back : (xs : List ℤ) → Counted (length xs) → All Word xs → reading.reads (length xs) (writes xs) ≡ numbers xs
+  pub short : (xs : List ℤ) → AllByRecursion Word xs → length (writes xs) ≤ 8 + 4 * length xs
+  pub back : (xs : List ℤ) → Counted (length xs) → AllByRecursion Word xs → reading.reads (length xs) (writes xs) ≡ numbers xs

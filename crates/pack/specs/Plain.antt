@@ -4,7 +4,7 @@ use Rattle.std.proofs.Common.{sym, ap, ap₂, subst, ◌∙◌, inl, arith, lit<
 use Rattle.std.specs.Int.{w32}
 use Rattle.std.proofs.Math.Facts.{Fits-of_z}
 use borrow.Author.Gap.{read_sfits}
-use Rattle.std.specs.List.{AllByRecursion as All}
+use Rattle.std.specs.List.{AllByRecursion}
 use Rattle.std.proofs.lemmas.Int.{to_z-of_z}
 use Rattle.std.proofs.lemmas.Nat.{shr-shr}
 use Rattle.std.proofs.lemmas.Bool.{cond_both, eq-eqb}
@@ -51,7 +51,7 @@ four n h =
 pub word_back : (x : ℤ) (rest : List ℕ) → Word x → le_word (le_bytes x ++ rest) ≡ x
 word_back x rest w = ap (to_z w32) (four (of_z w32 x) (Fits-of_z w).fits) ∙ to_z-of_z w32 x w
 
-pub words-spelled : (xs : List ℤ) → All Word xs → words_of (length xs) (spelled xs) ≡ xs
+pub words-spelled : (xs : List ℤ) → AllByRecursion Word xs → words_of (length xs) (spelled xs) ≡ xs
 words-spelled [] all = refl
 words-spelled (x ∷ xs) all = ap₂ (λ (y : ℤ) (ys : List ℤ). y ∷ ys) (word_back x (spelled xs) all.0) (words-spelled xs all.1)
 
@@ -59,7 +59,7 @@ pub length-words-of : (n : ℕ) (body : List ℕ) → length (words_of n body) �
 length-words-of zero body = refl
 length-words-of (suc n) body = ap suc (length-words-of n (drop 4 body))
 
-pub all-words-of : (n : ℕ) (body : List ℕ) → All Word (words_of n body)
+pub all-words-of : (n : ℕ) (body : List ℕ) → AllByRecursion Word (words_of n body)
 all-words-of zero body = tt
 all-words-of (suc n) body = (read_sfits w32 _, all-words-of n (drop 4 body))
 
@@ -73,10 +73,10 @@ plain-counts n body xs =
     (λ _ e. let same : words_of n body ≡ xs = cc in ap length (sym same) ∙ length-words-of n body)
     (λ _ e. let z : ◌≡◌ {A = ℕ} 0 1 = cc in absurd (omega arith))
 
-pub plain-words : (n : ℕ) (body : List ℕ) (xs : List ℤ) → plain_reads n body ≡ numbers xs → All Word xs
+pub plain-words : (n : ℕ) (body : List ℕ) (xs : List ℤ) → plain_reads n body ≡ numbers xs → AllByRecursion Word xs
 plain-words n body xs =
-    cond_both (length body == 4 * n) _ _ (λ (r : Reading). r ≡ numbers xs → All Word xs)
-    (λ _ e. let same : words_of n body ≡ xs = cc in subst (All Word) same (all-words-of n body))
+    cond_both (length body == 4 * n) _ _ (λ (r : Reading). r ≡ numbers xs → AllByRecursion Word xs)
+    (λ _ e. let same : words_of n body ≡ xs = cc in subst (AllByRecursion Word) same (all-words-of n body))
     (λ _ e. let z : ◌≡◌ {A = ℕ} 0 1 = cc in absurd (omega arith))
 
 pub plain-refusals : (n : ℕ) (body : List ℕ) (r : Why) → plain_reads n body ≡ refused r → (r ≡ BodyLength) ⊎ (r ≡ SpareBits)
@@ -85,7 +85,7 @@ plain-refusals n body r =
     (λ _ e. let z : ◌≡◌ {A = ℕ} 0 1 = cc in absurd (omega arith))
     (λ _ e. inl (cc))
 
-pub plain_back : (xs : List ℤ) → All Word xs → plain_reads (length xs) (spelled xs) ≡ numbers xs
+pub plain_back : (xs : List ℤ) → AllByRecursion Word xs → plain_reads (length xs) (spelled xs) ≡ numbers xs
 plain_back xs all = rw (eq-eqb _ _ (length-spelled xs)) (ap numbers (words-spelled xs all))
 
 -- packing 0

@@ -1,4 +1,6 @@
 // Packings: a list of 32-bit numbers as the bytes of a file, and back.
+#![tactic(auto)]
+
 ghost use Rattle.std.specs.Prelude.{◌≡◌, ℕ, ◌+◌, ◌-◌, ◌*◌, ◌/◌, ◌%◌, ◌^◌, ◌<◌, ◌≤◌, ◌∷◌, ◌++◌, map, length, take, drop};
 ghost use Rattle.std.specs.Int.Digits.{number_from_digits, AllBelowBase};
 ghost use Rattle.pack.specs.Packing.{PackingMeaning, Counted, Accepted, verdict, entry as Entry};

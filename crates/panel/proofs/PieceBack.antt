@@ -1,7 +1,7 @@
 -- Each piece that is written is read as what was written.
 use Rattle.std.proofs.Common.{◌≡◌, ℕ, ◌+◌, ◌*◌, ◌/◌, ◌%◌, ◌^◌, ◌<◌, ◌≤◌, true, List, ◌++◌, length, take, ℤ, None, Ok, sym, refl, ap, ◌∙◌, ap₂, arith, length-append}
 use lib.Ieee.{Float, binary32, of_bits, to_bits}
-use Rattle.std.specs.List.{AllByRecursion as All}
+use Rattle.std.specs.List.{AllByRecursion}
 use Rattle.std.proofs.lemmas.Nat.{shr-shr}
 use Rattle.std.proofs.lemmas.List.{take_at}
 use Rattle.std.proofs.lemmas.Bool.{le-ltb, eq-eqb}
@@ -52,8 +52,8 @@ length_back n at rest small =
     let bs = length_piece n ++ rest in
     simp (le-ltb (length bs) 5 (omega arith)) (ap Ok (four n small))
 
-module _ (m : PredictorMeaning) (q : PackingMeaning) (n : ℕ) (codes : List ℤ) (long : length codes ≡ n) (counted : Counted n) (words : All Word codes) where
-  stored-words : All Word (residues m codes)
+module _ (m : PredictorMeaning) (q : PackingMeaning) (n : ℕ) (codes : List ℤ) (long : length codes ≡ n) (counted : Counted n) (words : AllByRecursion Word codes) where
+  stored-words : AllByRecursion Word (residues m codes)
   stored-words = residues-words m 0 start codes (omega arith) start-words words
 
   stored-long : length (residues m codes) ≡ n

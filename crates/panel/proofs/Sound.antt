@@ -2,7 +2,7 @@
 use Rattle.std.proofs.Common.{◌≡◌, ℕ, suc, ◌+◌, ◌^◌, ◌<◌, true, List, [], ◌∷◌, length, take, ℤ, Ok, sym, refl, ap, ◌∙◌, subst, arith}
 use lib.Ieee.{binary32}
 use lib.Ieee.Bits.{of_bits-to_bits, to_bits-lt}
-use Rattle.std.specs.List.{AllByRecursion as All}
+use Rattle.std.specs.List.{AllByRecursion}
 use Rattle.std.proofs.lemmas.List.{length-take-le}
 use Rattle.std.proofs.lemmas.Bool.{and_parts, and_from}
 use Rattle.kinds.specs.Kind.{KindMeaning}
@@ -35,7 +35,7 @@ code-word g c h =
     let small : quanta (scale_of g) < 2 ^ 24 = (quanta-small g).1 in
     subst Word (sym n.0) (record { sfits = omega (arith, n.1) })
 
-pub codes-words : (g : Range) (cs : List ℤ) → all_codes (scale_of g) cs ≡ true → All Word cs
+pub codes-words : (g : Range) (cs : List ℤ) → all_codes (scale_of g) cs ≡ true → AllByRecursion Word cs
 unfolding all_codes
 codes-words g [] h = tt
 codes-words g (c ∷ cs) h = let parts = and_parts _ _ h in (code-word g c parts.0, codes-words g cs parts.1)
@@ -51,7 +51,7 @@ module _ {P : Type 0} (k : KindMeaning P) where
   length-codes s a [] = refl
   length-codes s a (p ∷ ps) = ap suc (length-codes s a ps)
 
-  pub axes-sound : (ps : List P) (a : ℕ) (gs : List Range) → inside_from k ps a gs ≡ true → All (SoundAxis (length ps)) (axes_from k ps a gs)
+  pub axes-sound : (ps : List P) (a : ℕ) (gs : List Range) → inside_from k ps a gs ≡ true → AllByRecursion (SoundAxis (length ps)) (axes_from k ps a gs)
   unfolding inside_from axes_from
   axes-sound ps a [] h = tt
   axes-sound ps a (g ∷ gs) h =

@@ -1,4 +1,6 @@
 // Panel files: design points stored as codes, axis by axis.
+#![tactic(auto)]
+
 ghost use Rattle.std.specs.Prelude.{◌≡◌, ◌+◌, ◌≤◌, true, ◌++◌, length, take, drop, if◌then◌else◌, Some, None};
 ghost use Rattle.range.specs.Scale.{scale_of};
 ghost use Rattle.predict.specs.Residues.{residues};

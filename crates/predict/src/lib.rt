@@ -1,4 +1,6 @@
 // Predictors: each foresees an entry from the entries before it, and what is stored is how far it was wrong.
+#![tactic(auto)]
+
 ghost use Rattle.std.specs.Prelude.{◌≡◌};
 ghost use Rattle.predict.specs.Wrap.{◌⊞◌, ◌⊟◌};
 ghost use Rattle.predict.specs.Predictor.{PredictorMeaning};

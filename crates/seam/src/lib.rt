@@ -1,4 +1,6 @@
 // Which vertices of a line a cut must keep, so that each of the others lies near a chord between two kept ones.
+#![tactic(auto)]
+
 ghost use Rattle.std.specs.Prelude.{◌≡◌, ℕ, ◌+◌, ◌-◌, ◌<◌, ◌≤◌, ◌&&◌, List, length, take, Result, nat_le, slice_set, unsigned_abs};
 ghost use Rattle.refusal.specs.declared.Why.{Why};
 ghost use Rattle.kinds.specs.Vertex.{at as vertex, told};

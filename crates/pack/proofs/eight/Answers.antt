@@ -6,5 +6,5 @@ use Rattle.pack.proofs.eight.Goals as goal
 pub returns : goal.returns
 returns c =
     let s : ℕ = c.args.start in
-    eight-more c.args.bytes.now s c.requires (λ i. (c.type-inv.bytes i).fits)
-    ∙ ap (λ (m : ℕ). number_from_digits 256 (take s c.args.bytes.now) * 2 ^ (8 * (s + 8 - s)) + m) (sym c.from-be-bytes.ensures)
+    eight-more c.args.bytes.now s c.requires (λ i. (c.type_inv.bytes i).fits)
+    ∙ ap (λ (m : ℕ). number_from_digits 256 (take s c.args.bytes.now) * 2 ^ (8 * (s + 8 - s)) + m) (sym c.from_be_bytes.ensures)

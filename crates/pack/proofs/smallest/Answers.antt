@@ -14,7 +14,7 @@ pub loop-i-preserved : goal.loop-i-preserved
 loop-i-preserved c =
     let f : SFits w32 (get_or c.args.list.now c.loop-i.i (pos 0)) = search rules in
     least_more c.args.list.now c.loop-i.i _ _ c.loop-i-test.true
-    (to_z-of_z w32 c.min-low.result (record { sfits = c.min-low.type-inv }) ∙ c.min-low.ensures.value ∙ ap (int_min _) (to_z-of_z w32 _ f))
+    (to_z-of_z w32 c.min-low.result (record { sfits = c.min-low.type_inv }) ∙ c.min-low.ensures.value ∙ ap (int_min _) (to_z-of_z w32 _ f))
     ∙ c.loop-i.invariant
 
 pub returns : goal.returns

@@ -12,9 +12,9 @@ loop-x-preserved c =
     let b : ℤ = to_z w32 (of_z w32 c.args.base) in
     let f : SFits w32 (get_or c.args.list.now c.loop-x.x-index (pos 0)) = search rules in (
       greatest-more b c.args.list.now c.loop-x.x-index c.loop-x.most c.max-most.result c.loop-x-test.true
-          (c.max-most.ensures ∙ ap (max c.loop-x.most) (c.abs-diff.ensures ∙ ap (gap b) (to_z-of_z w32 _ f)))
+          (c.max-most.ensures ∙ ap (max c.loop-x.most) (c.abs_diff.ensures ∙ ap (gap b) (to_z-of_z w32 _ f)))
           ∙ c.loop-x.invariant.0,
-      c.max-most.type-inv,
+      c.max-most.type_inv,
     )
 
 pub returns : goal.returns

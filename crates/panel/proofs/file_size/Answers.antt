@@ -37,7 +37,7 @@ loop-axis-preserved g c =
     let next = inside-next k ps gs i d lt c.told-ranges in
     let parts = length-next k ps gs i d lt c.told-ranges m q in
     let told = c.if-not-fill.ensures in
-    let long = axis-long m q (axis_on k ps i (get_or gs i d)) c.body-length.result _ c.body-length.ensures.size (told.list refl) in
+    let long = axis-long m q (axis_on k ps i (get_or gs i d)) c.body_length.result _ c.body_length.ensures.size (told.list refl) in
     let list : length (take (length ps) c.fill.new.work) ≡ length ps = length-take-le (length ps) c.fill.new.work (omega arith) in (
       omega arith,
       omega arith,

@@ -12,7 +12,7 @@ use Rattle.panel.proofs.write_file.Goals as goal
 pub put-requires : goal.put-requires
 put-requires g c =
     let w = length-written g.P.Predictor.means g.Q.Packing.means (panel_of g.K.PointKind.kind c.args.ranges.now c.args.design.now) in
-    let eight = ap length c.head-piece-head.ensures in
+    let eight = ap length c.head_piece-head.ensures in
     omega arith
 
 pub loop-axis-init : goal.loop-axis-init
@@ -20,8 +20,8 @@ loop-axis-init g c =
     let w = length-written g.P.Predictor.means g.Q.Packing.means (panel_of g.K.PointKind.kind c.args.ranges.now c.args.design.now) in
     (refl, sym w, c.requires.inside)
 
-pub write-axis-at-requires : goal.write-axis-at-requires
-write-axis-at-requires g c =
+pub write_axis-at-requires : goal.write_axis-at-requires
+write_axis-at-requires g c =
     let k = g.K.PointKind.kind in
     let lt : c.loop-axis.axis < g.K.PointKind.kind.axes = omega arith in
     let next = inside-next k c.args.design.now c.args.ranges.now c.loop-axis.axis c.index-ranges-axis.result lt c.told-ranges in
@@ -42,11 +42,11 @@ loop-axis-preserved g c =
     let parts = length-next k ps gs i d lt c.told-ranges m q in
     let bytes : List ℕ = axis_bytes m q (axis_on k ps i (get_or gs i d)) in
     let rest : List ℕ = rest_bytes m q (axes_from k ps (i + 1) (drop (i + 1) (take k.axes gs))) in (
-      ap (λ (f : List ℕ). overwritten f c.write-axis-at.result rest) c.write-axis-at.ensures.bytes
-          ∙ over-more c.loop-axis.file c.loop-axis.at bytes (omega arith) c.write-axis-at.result rest c.write-axis-at.ensures.next
+      ap (λ (f : List ℕ). overwritten f c.write_axis-at.result rest) c.write_axis-at.ensures.bytes
+          ∙ over-more c.loop-axis.file c.loop-axis.at bytes (omega arith) c.write_axis-at.result rest c.write_axis-at.ensures.next
           ∙ sym (ap (overwritten c.loop-axis.file c.loop-axis.at) (rest-next k ps gs i d lt c.told-ranges m q))
           ∙ c.loop-axis.invariant.0,
-      omega (arith, c.write-axis-at.ensures.next),
+      omega (arith, c.write_axis-at.ensures.next),
       (and_parts _ _ (sym next ∙ c.loop-axis.invariant.2)).1,
     )
 
@@ -69,18 +69,18 @@ returns g c =
     let past = axes-past k ps gs l.axis done c.told-ranges in
     let none = ap (λ xs. length (rest_bytes m q xs)) past in
     let w = length-written m q (panel_of k gs ps) in
-    let eight = ap length c.head-piece-head.ensures in
+    let eight = ap length c.head_piece-head.ensures in
     let here : l.at < length l.file = omega arith in
-    let room : 0 + length c.head-piece-head.result ≤ length c.args.file.now = omega arith in
+    let room : 0 + length c.head_piece-head.result ≤ length c.args.file.now = omega arith in
     let wide : k.axes ≤ length gs = omega (arith, k.few_axes) in
-    let count : c.axis-count-axes.result ≡ length (axes_from k ps 0 (take k.axes gs)) = c.axis-count-axes.ensures ∙ sym (length-axes k ps 0 (take k.axes gs) ∙ length-take-le k.axes gs wide) in
-    let head : c.head-piece-head.result ≡ head_piece (length (axes_from k ps 0 (take k.axes gs))) m.number q.reading.number (length ps) =
-    c.head-piece-head.ensures ∙ simp (count, c.tag.ensures, c.tag-2.ensures) in
+    let count : c.axis_count-axes.result ≡ length (axes_from k ps 0 (take k.axes gs)) = c.axis_count-axes.ensures ∙ sym (length-axes k ps 0 (take k.axes gs) ∙ length-take-le k.axes gs wide) in
+    let head : c.head_piece-head.result ≡ head_piece (length (axes_from k ps 0 (take k.axes gs))) m.number q.reading.number (length ps) =
+    c.head_piece-head.ensures ∙ simp (count, c.tag.ensures, c.tag-2.ensures) in
     let all : List ℕ = rest_bytes m q (axes_from k ps 0 (take k.axes gs)) in
     over-one l.file l.at 69 here
     ∙ sym (ap (λ xs. overwritten l.file l.at (rest_bytes m q xs)) past)
     ∙ l.invariant.0
     ∙ ap (λ (f : List ℕ). overwritten f 8 all) c.put.ensures
-    ∙ over-more c.args.file.now 0 c.head-piece-head.result room 8 all (omega arith)
+    ∙ over-more c.args.file.now 0 c.head_piece-head.result room 8 all (omega arith)
     ∙ ap (λ (h : List ℕ). overwritten c.args.file.now 0 (h ++ all)) head
     ∙ over-front c.args.file.now (written m q (panel_of k gs ps))

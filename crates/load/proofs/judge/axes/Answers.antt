@@ -21,18 +21,18 @@ returns-in-Err g c =
       long = tt;
     }
 
-pub returns-in-Err-body-at : goal.returns-in-Err-body-at
-returns-in-Err-body-at g c =
+pub returns-in-Err-body_at : goal.returns-in-Err-body_at
+returns-in-Err-body_at g c =
     let m = g.P.Predictor.means in
     let q = g.Q.Packing.means.reading in
     let f = c.args.file.now in
     let p : Rest = (drop c.axes.at f, c.axes.at) in
-    let e = c.in-Err-body-at.e in
+    let e = c.in-Err-body_at.e in
     record {
       value =
           sym (left-on m q c.args.n c.args.count c.axes.axis p _ _ c.axes-test.true c.axes.invariant.0
           (shuts m q c.args.n (c.args.count - (c.axes.axis + 1)) p e
-          (shut-body f c.axes.at (scale_of c.in-Ok.range) c.in-Ok.ensures.value e c.in-Err-body-at.ensures.value)));
+          (shut-body f c.axes.at (scale_of c.in-Ok.range) c.in-Ok.ensures.value e c.in-Err-body_at.ensures.value)));
       long = tt;
     }
 
@@ -42,8 +42,8 @@ returns-in-Err-judge g c =
     let q = g.Q.Packing.means.reading in
     let f = c.args.file.now in
     let s = scale_of c.in-Ok.range in
-    let bytes = c.in-Ok-body-at.body.0.now in
-    let offset = c.in-Ok-body-at.body.1 in
+    let bytes = c.in-Ok-body_at.body.0.now in
+    let offset = c.in-Ok-body_at.body.1 in
     let p : Rest = (drop c.axes.at f, c.axes.at) in
     let next : Rest = (drop (offset + length bytes) f, offset + length bytes) in
     record {
@@ -51,35 +51,35 @@ returns-in-Err-judge g c =
           ap Err c.refused.ensures
           ∙ sym (left-on m q c.args.n c.args.count c.axes.axis p _ _ c.axes-test.true c.axes.invariant.0
           (stops m q c.args.n (c.args.count - (c.axes.axis + 1)) p s bytes offset next
-          (opens f c.axes.at s c.in-Ok.ensures.value bytes offset c.in-Ok-body-at.ensures.value) _
+          (opens f c.axes.at s c.in-Ok.ensures.value bytes offset c.in-Ok-body_at.ensures.value) _
           (undone-refused m q c.args.n offset s c.in-Err-judge.why _ c.in-Err-judge.ensures)));
       long = tt;
     }
 
-pub returns-then-not-is-code : goal.returns-then-not-is-code
-returns-then-not-is-code g c =
+pub returns-then-not-is_code : goal.returns-then-not-is_code
+returns-then-not-is_code g c =
     let m = g.P.Predictor.means in
     let q = g.Q.Packing.means.reading in
     let f = c.args.file.now in
     let s = scale_of c.in-Ok.range in
-    let bytes = c.in-Ok-body-at.body.0.now in
-    let offset = c.in-Ok-body-at.body.1 in
+    let bytes = c.in-Ok-body_at.body.0.now in
+    let offset = c.in-Ok-body_at.body.1 in
     let p : Rest = (drop c.axes.at f, c.axes.at) in
     let next : Rest = (drop (offset + length bytes) f, offset + length bytes) in
-    let ok = accepted-from (q.reads c.args.n bytes) c.in-default.field-0 c.in-default.ensures in
+    let ok = accepted-from (q.reads c.args.n bytes) c.in_default.field-0 c.in_default.ensures in
     let long = count-list q c.args.n bytes ok in
-    let e = same c.entry.result (record { sfits = c.entry.type-inv }) ∙ c.entry.ensures in
-    let v = same c.restored-code.result (record { sfits = c.restored-code.type-inv }) ∙ c.restored-code.ensures in
+    let e = same c.entry.result (record { sfits = c.entry.type_inv }) ∙ c.entry.ensures in
+    let v = same c.restored-code.result (record { sfits = c.restored-code.type_inv }) ∙ c.restored-code.ensures in
     record {
       value =
-          ap Err c.refused-then-not-is-code.ensures
+          ap Err c.refused-then-not-is_code.ensures
           ∙ sym (left-on m q c.args.n c.args.count c.axes.axis p _ _ c.axes-test.true c.axes.invariant.0
           (stops m q c.args.n (c.args.count - (c.axes.axis + 1)) p s bytes offset next
-          (opens f c.axes.at s c.in-Ok.ensures.value bytes offset c.in-Ok-body-at.ensures.value) _
+          (opens f c.axes.at s c.in-Ok.ensures.value bytes offset c.in-Ok-body_at.ensures.value) _
           (sym (undone-out m q c.args.n offset s bytes ok
           (sym c.vertices.invariant
           ∙ codes-next m c.vertices.before (listed (q.reads c.args.n bytes)) c.vertices.i _ _ _ (omega arith) e v refl s
-          ∙ and_left _ _ (sym c.if-not-is-code.ensures))))));
+          ∙ and_left _ _ (sym c.if-not-is_code.ensures))))));
       long = tt;
     }
 
@@ -87,12 +87,12 @@ pub vertices-preserved : goal.vertices-preserved
 vertices-preserved g c =
     let m = g.P.Predictor.means in
     let q = g.Q.Packing.means.reading in
-    let bytes = c.in-Ok-body-at.body.0.now in
-    let ok = accepted-from (q.reads c.args.n bytes) c.in-default.field-0 c.in-default.ensures in
+    let bytes = c.in-Ok-body_at.body.0.now in
+    let ok = accepted-from (q.reads c.args.n bytes) c.in_default.field-0 c.in_default.ensures in
     let long = count-list q c.args.n bytes ok in
-    let e = same c.entry.result (record { sfits = c.entry.type-inv }) ∙ c.entry.ensures in
-    let v = same c.restored-code.result (record { sfits = c.restored-code.type-inv }) ∙ c.restored-code.ensures in
-    codes-go m c.vertices.before (listed (q.reads c.args.n bytes)) c.vertices.i _ _ _ (omega arith) e v c.then-before.ensures (scale_of c.in-Ok.range) c.if-not-is-code.ensures
+    let e = same c.entry.result (record { sfits = c.entry.type_inv }) ∙ c.entry.ensures in
+    let v = same c.restored-code.result (record { sfits = c.restored-code.type_inv }) ∙ c.restored-code.ensures in
+    codes-go m c.vertices.before (listed (q.reads c.args.n bytes)) c.vertices.i _ _ _ (omega arith) e v c.then-before.ensures (scale_of c.in-Ok.range) c.if-not-is_code.ensures
     ∙ c.vertices.invariant
 
 pub axes-preserved : goal.axes-preserved
@@ -101,18 +101,18 @@ axes-preserved g c =
     let q = g.Q.Packing.means.reading in
     let f = c.args.file.now in
     let s = scale_of c.in-Ok.range in
-    let bytes = c.in-Ok-body-at.body.0.now in
-    let offset = c.in-Ok-body-at.body.1 in
+    let bytes = c.in-Ok-body_at.body.0.now in
+    let offset = c.in-Ok-body_at.body.1 in
     let p : Rest = (drop c.axes.at f, c.axes.at) in
     let next : Rest = (drop (offset + length bytes) f, offset + length bytes) in
-    let ok = accepted-from (q.reads c.args.n bytes) c.in-default.field-0 c.in-default.ensures in
+    let ok = accepted-from (q.reads c.args.n bytes) c.in_default.field-0 c.in_default.ensures in
     let long = count-list q c.args.n bytes ok in (
       left-on m q c.args.n c.args.count c.axes.axis p _ _ c.axes-test.true c.axes.invariant.0
           (goes m q c.args.n (c.args.count - (c.axes.axis + 1)) p s bytes offset next
-          (opens f c.axes.at s c.in-Ok.ensures.value bytes offset c.in-Ok-body-at.ensures.value)
+          (opens f c.axes.at s c.in-Ok.ensures.value bytes offset c.in-Ok-body_at.ensures.value)
           (sym (undone-in m q c.args.n offset s bytes ok
           (sym c.vertices.invariant ∙ codes-past m c.vertices.before (listed (q.reads c.args.n bytes)) c.vertices.i s (omega arith))))),
-      omega (arith, c.in-Ok-body-at.ensures.long, c.in-Ok.ensures.long),
+      omega (arith, c.in-Ok-body_at.ensures.long, c.in-Ok.ensures.long),
     )
 
 pub returns : goal.returns

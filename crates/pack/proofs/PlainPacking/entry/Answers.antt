@@ -5,6 +5,6 @@ use Rattle.pack.proofs.PlainPacking.entry.Goals as goal
 
 pub returns : goal.returns
 returns c =
-    to_z-of_z w32 c.word-at.result (record { sfits = c.word-at.type-inv })
-    ∙ c.word-at.ensures ∙ word-drop c.args.body.now (4 * c.args.i)
-    ∙ read-entry c.args.-n c.args.i c.args.body.now c.requires.1.0 c.requires.1.1
+    to_z-of_z w32 c.word_at.result (record { sfits = c.word_at.type_inv })
+    ∙ c.word_at.ensures ∙ word-drop c.args.body.now (4 * c.args.i)
+    ∙ read-entry c.args._n c.args.i c.args.body.now c.requires.1.0 c.requires.1.1

@@ -7,22 +7,22 @@ use Rattle.range.proofs.range.Range.nearest_code.Goals as goal
 
 pub nearest-requires : goal.nearest-requires
 nearest-requires c =
-    let f : c.from-lower-from.result ≤ 33554432 = omega arith in
+    let f : c.from_lower-from.result ≤ 33554432 = omega arith in
     let t : c.top-top.result ≤ 16777216 = omega arith in
     record { above = c.span-span.ensures.bound.0; small = (omega (arith, mul-le-mul f t), omega arith) }
 
-pub overflow-cast-result : goal.overflow-cast-result
-overflow-cast-result c =
-    let b = code-bound c.from-lower-from.result c.span-span.result c.top-top.result c.span-span.ensures.bound.0 (omega arith) in
+pub overflow_cast-result : goal.overflow_cast-result
+overflow_cast-result c =
+    let b = code-bound c.from_lower-from.result c.span-span.result c.top-top.result c.span-span.ensures.bound.0 (omega arith) in
     record { fits = omega (arith, c.nearest.ensures) }
 
 pub returns : goal.returns
 unfolding code_in
 returns c =
-    let b = code-bound c.from-lower-from.result c.span-span.result c.top-top.result c.span-span.ensures.bound.0 (omega arith) in
+    let b = code-bound c.from_lower-from.result c.span-span.result c.top-top.result c.span-span.ensures.bound.0 (omega arith) in
     record {
       value = ap pos c.nearest.ensures
-          ∙ code_is c.args.self.now.bits (units_of c.args.self.now.lower) (units_of c.args.self.now.upper) c.args.v c.from-lower-from.result c.span-span.result c.top-top.result
-          (omega (arith, ints, c.from-lower-from.ensures.value)) c.span-span.ensures.value c.top-top.ensures.value;
+          ∙ code_is c.args.self.now.bits (units_of c.args.self.now.lower) (units_of c.args.self.now.upper) c.args.v c.from_lower-from.result c.span-span.result c.top-top.result
+          (omega (arith, ints, c.from_lower-from.ensures.value)) c.span-span.ensures.value c.top-top.ensures.value;
       bound = omega (arith, c.nearest.ensures);
     }

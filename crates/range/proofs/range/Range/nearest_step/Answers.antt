@@ -8,42 +8,42 @@ use Rattle.range.proofs.Ranges.{ends-on-table}
 use Rattle.range.proofs.Rounded as Rounded
 use Rattle.range.proofs.range.Range.nearest_step.Goals as goal
 
-pub overflow-mul-n : goal.overflow-mul-n
-overflow-mul-n c = Rounded.mul-1 c.lower-units-lo.result c.span-span.result c.top-top.result c.args.code c.lower-units-lo.ensures.bound c.span-span.ensures.bound.1 c.top-top.ensures.bound.0 c.top-top.ensures.bound.1 (omega arith)
+pub overflow_mul-n : goal.overflow_mul-n
+overflow_mul-n c = Rounded.mul-1 c.lower_units-lo.result c.span-span.result c.top-top.result c.args.code c.lower_units-lo.ensures.bound c.span-span.ensures.bound.1 c.top-top.ensures.bound.0 c.top-top.ensures.bound.1 (omega arith)
 
-pub overflow-mul-n-2 : goal.overflow-mul-n-2
-overflow-mul-n-2 c = Rounded.mul-2 c.lower-units-lo.result c.span-span.result c.top-top.result c.args.code c.lower-units-lo.ensures.bound c.span-span.ensures.bound.1 c.top-top.ensures.bound.0 c.top-top.ensures.bound.1 (omega arith)
+pub overflow_mul-n-2 : goal.overflow_mul-n-2
+overflow_mul-n-2 c = Rounded.mul-2 c.lower_units-lo.result c.span-span.result c.top-top.result c.args.code c.lower_units-lo.ensures.bound c.span-span.ensures.bound.1 c.top-top.ensures.bound.0 c.top-top.ensures.bound.1 (omega arith)
 
-pub overflow-add-n : goal.overflow-add-n
-overflow-add-n c = Rounded.add-1 c.lower-units-lo.result c.span-span.result c.top-top.result c.args.code c.lower-units-lo.ensures.bound c.span-span.ensures.bound.1 c.top-top.ensures.bound.0 c.top-top.ensures.bound.1 (omega arith)
+pub overflow_add-n : goal.overflow_add-n
+overflow_add-n c = Rounded.add-1 c.lower_units-lo.result c.span-span.result c.top-top.result c.args.code c.lower_units-lo.ensures.bound c.span-span.ensures.bound.1 c.top-top.ensures.bound.0 c.top-top.ensures.bound.1 (omega arith)
 
-pub overflow-add-n-2 : goal.overflow-add-n-2
-overflow-add-n-2 c = Rounded.add-2 c.lower-units-lo.result c.span-span.result c.top-top.result c.args.code c.lower-units-lo.ensures.bound c.span-span.ensures.bound.1 c.top-top.ensures.bound.0 c.top-top.ensures.bound.1 (omega arith)
+pub overflow_add-n-2 : goal.overflow_add-n-2
+overflow_add-n-2 c = Rounded.add-2 c.lower_units-lo.result c.span-span.result c.top-top.result c.args.code c.lower_units-lo.ensures.bound c.span-span.ensures.bound.1 c.top-top.ensures.bound.0 c.top-top.ensures.bound.1 (omega arith)
 
-pub floor-of-requires : goal.floor-of-requires
-floor-of-requires c =
-    Rounded.by-pos c.lower-units-lo.result c.span-span.result c.top-top.result c.args.code c.lower-units-lo.ensures.bound c.span-span.ensures.bound.1 c.top-top.ensures.bound.0 c.top-top.ensures.bound.1 (omega arith)
+pub floor_of-requires : goal.floor_of-requires
+floor_of-requires c =
+    Rounded.by-pos c.lower_units-lo.result c.span-span.result c.top-top.result c.args.code c.lower_units-lo.ensures.bound c.span-span.ensures.bound.1 c.top-top.ensures.bound.0 c.top-top.ensures.bound.1 (omega arith)
 
 -- the quotient is the place, which lies within 2 ^ 20 steps
-quotient : (c : goal.After-floor-of) → (c.floor-of.result ≡ place_of c.args.self.now.bits (units_of c.args.self.now.lower) (units_of c.args.self.now.upper) c.args.code) × (nat_abs c.floor-of.result ≤ 1048576)
+quotient : (c : goal.After-floor_of) → (c.floor_of.result ≡ place_of c.args.self.now.bits (units_of c.args.self.now.lower) (units_of c.args.self.now.upper) c.args.code) × (nat_abs c.floor_of.result ≤ 1048576)
 quotient c =
     let g = c.args.self.now in
-    let L = c.lower-units-lo.result in
+    let L = c.lower_units-lo.result in
     let D = c.span-span.result in
     let t = c.top-top.result in
     let k = c.args.code in
     let e =
-    c.floor-of.ensures
-    ∙ Rounded.place_is L D t k c.lower-units-lo.ensures.bound c.span-span.ensures.bound.1 c.top-top.ensures.bound.0 c.top-top.ensures.bound.1 (omega arith)
-    ∙ Rounded.place_of_lem g.bits (units_of g.lower) (units_of g.upper) L D t k c.lower-units-lo.ensures.value c.span-span.ensures.value c.top-top.ensures.value in
+    c.floor_of.ensures
+    ∙ Rounded.place_is L D t k c.lower_units-lo.ensures.bound c.span-span.ensures.bound.1 c.top-top.ensures.bound.0 c.top-top.ensures.bound.1 (omega arith)
+    ∙ Rounded.place_of_lem g.bits (units_of g.lower) (units_of g.upper) L D t k c.lower_units-lo.ensures.value c.span-span.ensures.value c.top-top.ensures.value in
     (e, subst (λ (z : ℤ). nat_abs z ≤ 1048576) (sym e) (places-bounded g.bits (units_of g.lower) (units_of g.upper) k g.width.0 (ends-on-table g) c.requires))
 
-pub overflow-cast-result : goal.overflow-cast-result
-overflow-cast-result c = omega (arith, ints, (quotient c).1)
+pub overflow_cast-result : goal.overflow_cast-result
+overflow_cast-result c = omega (arith, ints, (quotient c).1)
 
 pub returns : goal.returns
 unfolding place_in
 returns c =
     let q = quotient c in
-    let e : to_z w32 (of_z w32 (to_z w64 (of_z w64 c.floor-of.result))) ≡ c.floor-of.result = omega (arith, ints, q.1) in
+    let e : to_z w32 (of_z w32 (to_z w64 (of_z w64 c.floor_of.result))) ≡ c.floor_of.result = omega (arith, ints, q.1) in
     e ∙ q.0
