@@ -3,13 +3,14 @@
 cd "$(dirname "$0")/.." || exit 1
 echo "proving and building panelcut (some minutes the first time) ..."
 said=$(mktemp)
-rt check panelcut >"$said" 2>&1 || { cat "$said"; rm -f "$said"; exit 1; }
-tail -n 1 "$said"
+(cd crates/panelcut && rt run <../../examples/luff.panel >/dev/null 2>"$said") || { cat "$said"; rm -f "$said"; exit 1; }
+grep '^logic=' "$said" | tail -n 1
 rm -f "$said"
+mkdir -p target
 panel=${1:-examples/luff.panel}
 out=target/$(basename "$panel" .panel).cut
 echo "panel:   $panel, $(wc -c <"$panel" | tr -d ' ') bytes, $(od -An -tu1 -j 4 -N 2 "$panel" | awk '{ print $1 + 256 * $2 }') vertices"
-target/bin/panelcut <"$panel" >"$out"
+crates/panelcut/out/panelcut <"$panel" >"$out"
 ended=$?
 if [ "$ended" -ne 0 ]; then
     cat "$out"
