@@ -1,5 +1,5 @@
 -- The refusal of a file has a number of 4 or more.
-use Rattle.std.proofs.Common.{◌≡◌, ℕ, zero, suc, ◌+◌, ◌≤◌, Bool, cond, ◌&&◌, eqb, ltb, leb, ◌⊎◌, List, length, get_or, take, drop, Some, None, Ok, Err, Option, Result, sym, refl, subst, ⊎_elim, lit≤}
+use Rattle.std.proofs.Common.{◌≡◌, ℕ, zero, suc, ◌+◌, ◌≤◌, Bool, cond, ◌&&◌, eqb, ltb, leb, List, length, get_or, take, drop, Some, None, Ok, Err, Option, Result, sym, refl, subst, ⊎_elim, lit≤}
 use lib.Signed.{lt_z}
 use lib.Ieee.{Float, binary32, of_bits}
 use Rattle.std.proofs.lemmas.Bool.{cond_both}

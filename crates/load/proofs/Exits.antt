@@ -11,7 +11,7 @@ use Rattle.predict.specs.Predictor.{PredictorMeaning}
 use Rattle.predict.specs.Residues.{start, after, restored, values_from, values}
 use Rattle.pack.specs.Packing.{ReadingMeaning, Reading, numbers, refused as refused', Counted}
 use Rattle.range.specs.Scale.{Scale}
-use Rattle.panel.specs.Panel.{Axis, Panel}
+use Rattle.panel.specs.Panel.{Axis}
 use Rattle.panel.specs.Judging.{refuse, and_then, Rest, head_at, range_at, length_at, end_at, body_at, axis_at, axes_at, undone, more, all_codes, judged}
 use Rattle.panel.specs.Words.{word}
 use Rattle.panel.specs.Placed.{filled, placed, load_of}

@@ -1,4 +1,4 @@
-use Rattle.std.proofs.Common.{arith, Fits}
+use Rattle.std.proofs.Common.{arith}
 use borrow.Author.Differences.{ints}
 use Rattle.range.specs.Scale.{scale_of}
 use Rattle.range.proofs.Ranges.{inside-ends, ends-on-table}

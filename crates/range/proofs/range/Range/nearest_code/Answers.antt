@@ -1,4 +1,4 @@
-use Rattle.std.proofs.Common.{◌≤◌, pos, ap, ◌∙◌, mul-le-mul, arith, Fits}
+use Rattle.std.proofs.Common.{◌≤◌, pos, ap, ◌∙◌, mul-le-mul, arith}
 use borrow.Author.Differences.{ints}
 use Rattle.range.specs.Scale.{code_in}
 use Rattle.range.specs.Units.{units_of}
