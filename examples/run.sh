@@ -6,11 +6,12 @@ said=$(mktemp)
 (cd crates/panelcut && rt run <../../examples/luff.panel >/dev/null 2>"$said") || { cat "$said"; rm -f "$said"; exit 1; }
 grep '^logic=' "$said" | tail -n 1
 rm -f "$said"
-mkdir -p target
+mkdir -p target/bin
+cp crates/panelcut/out/panelcut target/bin/panelcut
 panel=${1:-examples/luff.panel}
 out=target/$(basename "$panel" .panel).cut
 echo "panel:   $panel, $(wc -c <"$panel" | tr -d ' ') bytes, $(od -An -tu1 -j 4 -N 2 "$panel" | awk '{ print $1 + 256 * $2 }') vertices"
-crates/panelcut/out/panelcut <"$panel" >"$out"
+target/bin/panelcut <"$panel" >"$out"
 ended=$?
 if [ "$ended" -ne 0 ]; then
     cat "$out"

@@ -7,9 +7,9 @@
 set -eu
 cd "$(dirname "$0")/.."
 made=target/harness
-(cd crates/controller && rt lib)
+sh tools/static_library.sh
 mkdir -p "$made"
-rustc -O --edition 2021 harness/src/main.rs -o "$made/harness" -L crates/controller/out -l static=controller
+rustc -O --edition 2021 harness/src/main.rs -o "$made/harness" -L target/staticlib -l static=controller
 "$made/harness" "$@"
 case "${1:-all}" in all | speed) ;; *) exit 0 ;; esac
 

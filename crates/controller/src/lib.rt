@@ -1,4 +1,5 @@
 // The table's calls for a controller in C: plain numbers and lent lists in, plain numbers out. Nothing is kept between calls.
+// The crate `controller_c` exports them.
 #![tactic(auto)]
 
 ghost use Rattle.std.specs.Prelude.{◌≡◌, [], ◌∷◌, length};
@@ -17,8 +18,7 @@ use pairing::{cut_by, store_by};
 use seam::split;
 
 // Cuts one panel file on a new bench: load, split, cut and close. A tolerance of 2^32 - 1 stands for none.
-#[unsafe(no_mangle)]
-pub extern "C" fn loft_cut_flat(
+pub fn loft_cut_flat(
     file: &[u8],
     predictor: u8,
     packing: u8,
@@ -33,8 +33,7 @@ pub extern "C" fn loft_cut_flat(
 }
 
 // The same for moulds.
-#[unsafe(no_mangle)]
-pub extern "C" fn loft_cut_mould(
+pub fn loft_cut_mould(
     file: &[u8],
     predictor: u8,
     packing: u8,
@@ -49,8 +48,7 @@ pub extern "C" fn loft_cut_mould(
 }
 
 // Splits the first `count` points and writes their marks.
-#[unsafe(no_mangle)]
-pub extern "C" fn loft_split_flat(
+pub fn loft_split_flat(
     points: &[Flat],
     count: usize,
     tolerance: u32,
@@ -63,8 +61,7 @@ pub extern "C" fn loft_split_flat(
 }
 
 // The same for moulds.
-#[unsafe(no_mangle)]
-pub extern "C" fn loft_split_mould(
+pub fn loft_split_mould(
     points: &[Mould],
     count: usize,
     tolerance: u32,
@@ -77,8 +74,7 @@ pub extern "C" fn loft_split_mould(
 }
 
 // Stores design points at the front of `file`. The second range stands for the third too, which a flat store does not use.
-#[unsafe(no_mangle)]
-pub extern "C" fn loft_store_flat(
+pub fn loft_store_flat(
     design: &[Flat],
     predictor: u8,
     packing: u8,
@@ -93,8 +89,7 @@ pub extern "C" fn loft_store_flat(
 }
 
 // The same for moulds.
-#[unsafe(no_mangle)]
-pub extern "C" fn loft_store_mould(
+pub fn loft_store_mould(
     design: &[Mould],
     predictor: u8,
     packing: u8,
