@@ -48,12 +48,7 @@ pub fn loft_cut_mould(
 }
 
 // Splits the first `count` points and writes their marks.
-pub fn loft_split_flat(
-    points: &[Flat],
-    count: usize,
-    tolerance: u32,
-    marks: &mut [u8],
-) -> Answer
+pub fn loft_split_flat(points: &[Flat], count: usize, tolerance: u32, marks: &mut [u8]) -> Answer
     ensures answer { result ≡ counted_as (split_of flat tolerance count points.now marks.old).0 }
     ensures marks { marks.new ≡ (split_of flat tolerance count points.now marks.old).1 }
 {
@@ -61,12 +56,7 @@ pub fn loft_split_flat(
 }
 
 // The same for moulds.
-pub fn loft_split_mould(
-    points: &[Mould],
-    count: usize,
-    tolerance: u32,
-    marks: &mut [u8],
-) -> Answer
+pub fn loft_split_mould(points: &[Mould], count: usize, tolerance: u32, marks: &mut [u8]) -> Answer
     ensures answer { result ≡ counted_as (split_of mould tolerance count points.now marks.old).0 }
     ensures marks { marks.new ≡ (split_of mould tolerance count points.now marks.old).1 }
 {
