@@ -1,41 +1,37 @@
--- The smallest entry, and the greatest number, an entry at a time.
-use Rattle.std.proofs.Common.{◌≡◌, ℕ, suc, ◌+◌, ◌-◌, ◌*◌, ◌^◌, ◌<◌, ◌≤◌, max, List, [], ◌∷◌, map, length, get_or, drop, ℤ, pos, fold, sym, refl, ap, ◌∙◌, arith, lit<, lit≤}
-use Prim.Native.Nat.pow
-use native.Mathlib.Nat.{pow-le-pow_right}
-use lib.Count.{count_leading_zeros}
+-- The least of a list, and the width of its greatest difference.
+use Rattle.std.proofs.Common.{◌≡◌, ℕ, ◌^◌, ◌<◌, ◌≤◌, List, [], ◌∷◌, length, ℤ, ◌≤ℤ◌, fold, refl, sym, subst, inl, inr, suc, arith}
 use Rattle.std.specs.Int.{int_min}
-use Rattle.std.specs.Int.Digits.{digits_of}
-use Rattle.std.proofs.lemmas.List.{drop_more}
-use Rattle.std.proofs.lemmas.Nat.{leading_length}
-use Rattle.std.proofs.lemmas.Int.Digits.{length-digits_of-le}
-use Rattle.pack.specs.Fields.{least, gap, greatest}
-use Rattle.pack.specs.Fielded.{under-width}
+use Rattle.std.specs.Int.Digits.{AllBelowBase}
+use Rattle.std.specs.List.{All, Contains}
+use Rattle.std.proofs.lemmas.Int.{ints, fold-int_min_reached}
+use Rattle.std.proofs.lemmas.List.Elements.{All-contains, All-from_recursion, recursion_from_All}
+use Rattle.pack.specs.Fields.{least, greatest, width_of}
+use Rattle.pack.specs.Fielded.{least-low, under-greatest, under-width, width-least}
 
-pub least-none : (xs : List ℤ) → 0 < length xs → fold int_min (get_or xs 0 (pos 0)) (drop 1 xs) ≡ least xs
-least-none [] h = absurd (omega arith)
-least-none (x ∷ xs) h = refl
+ordered : (a b : ℤ) → a ≤ℤ b → b ≤ℤ a → a ≡ b
+ordered a b h k = omega (arith, ints)
 
-pub least_more : (xs : List ℤ) (i : ℕ) (low next : ℤ) → i < length xs → next ≡ int_min low (get_or xs i (pos 0)) →
-    fold int_min next (drop (i + 1) xs) ≡ fold int_min low (drop i xs)
-least_more xs i low next h e = ap (λ (z : ℤ). fold int_min z (drop (i + 1) xs)) e ∙ ap (fold int_min low) (sym (drop_more xs i (pos 0) h))
+least-in : (xs : List ℤ) → 0 < length xs → Contains xs (least xs)
+least-in [] h = absurd (omega arith)
+least-in (x ∷ xs) h = elim (fold-int_min_reached x xs (fold int_min x xs) refl) [
+  | inl e ↦ (0, omega arith, sym e)
+  | inr k ↦ (suc k.0, omega (arith, k.1), k.2)
+]
 
-pub greatest-more : (b : ℤ) (xs : List ℤ) (i most next : ℕ) → i < length xs → next ≡ max most (gap b (get_or xs i (pos 0))) →
-    max next (greatest (map (gap b) (drop (i + 1) xs))) ≡ max most (greatest (map (gap b) (drop i xs)))
-greatest-more b xs i most next h e =
-    let front : greatest (map (gap b) (drop i xs)) ≡ max (gap b (get_or xs i (pos 0))) (greatest (map (gap b) (drop (i + 1) xs))) =
-    ap (λ (ys : List ℤ). greatest (map (gap b) ys)) (drop_more xs i (pos 0) h) in
+-- the least is the one entry that none is below
+pub least_is : (xs : List ℤ) (m : ℤ) → All (λ x. m ≤ℤ x) xs → Contains xs m → m ≡ least xs
+least_is xs m low has =
+    ordered m (least xs)
+    (All-contains (λ x. m ≤ℤ x) xs (least xs) low (least-in xs (omega (arith, has.1))))
+    (All-contains (λ x. least xs ≤ℤ x) xs m (All-from_recursion _ xs (least-low xs)) has)
+
+-- the width of the greatest of some fields
+pub width_by : (fs : List ℕ) (most w : ℕ) → All (λ f. f ≤ most) fs → Contains fs most → most < 2 ^ w → ((v : ℕ) → most < 2 ^ v → w ≤ v) → w ≡ width_of fs
+width_by fs most w bound has holds smallest =
+    let up : w ≤ width_of fs = smallest (width_of fs) (All-contains (λ f. f < 2 ^ width_of fs) fs most (All-from_recursion _ fs (under-greatest fs _ (under-width (greatest fs)))) has) in
+    let down : width_of fs ≤ w = width-least fs w (recursion_from_All (λ f. f < 2 ^ w) fs (λ i d l. let b = bound i d l in omega arith)) in
     omega arith
 
--- the zeros in front say how many binary digits a number has
-pub width_is : (n : ℕ) → n < 2 ^ 32 → 32 - count_leading_zeros 32 n ≡ length (digits_of 2 n)
-width_is n h =
-    let found = leading_length 32 n h in
-    let m = found.0 in
-    let k = length (digits_of 2 n) in
-    let most : k ≤ m = length-digits_of-le 2 m n (lit≤ tt) found.2 in
-    let under : n < 2 ^ k = under-width n in
-    let twice : 2 ^ suc k ≡ 2 ^ k * 2 = pow.suc 2 k in
-    let high : 2 ^ m ≤ 2 * n + 1 = found.3 in
-    let far : k < m → 2 ^ suc k ≤ 2 ^ m = λ g. pow-le-pow_right (lit< tt) g in
-    let same : m ≡ k = grind (arith, far) in
-    omega (arith, found.1)
+-- the width of some fields holds each of them
+pub holds : (fs : List ℕ) (w : ℕ) → w ≡ width_of fs → AllBelowBase (2 ^ w) fs
+holds fs w e = subst (λ (v : ℕ). AllBelowBase (2 ^ v) fs) (sym e) (under-greatest fs _ (under-width (greatest fs)))

@@ -1,5 +1,5 @@
 -- Packing 1 is a packing: what is written is read back, and a body that is read means numbers of 32 bits.
-use Rattle.std.specs.Prelude.{◌≡◌, ℕ, zero, suc, ◌+◌, ◌*◌, ◌/◌, ◌%◌, ◌^◌, ◌<◌, ◌≤◌, Bool, true, cond, ◌⊎◌, List, [], ◌∷◌, map, length, drop, ℤ, pos, ◌+ℤ◌, ◌-ℤ◌, ◌≤ℤ◌, fold, ◌==◌, nat_le, slice_index, refl}
+use Rattle.std.specs.Prelude.{◌≡◌, ℕ, zero, suc, ◌+◌, ◌*◌, ◌/◌, ◌%◌, ◌^◌, ◌<◌, ◌≤◌, Bool, true, cond, ◌⊎◌, List, [], ◌∷◌, map, length, drop, ℤ, pos, ◌+ℤ◌, ◌-ℤ◌, ◌≤ℤ◌, fold, ◌==◌, nat_le, slice_index, refl, Ok, Err, Result}
 use Rattle.std.proofs.Common.{sym, ap, ap₂, subst, ◌∙◌, inl, inr, ⊎_elim, arith, mul-le-mul_left, suc-mul, mod-eq_of_lt, eqb-true, leb-true, lit<, lit≤, pow-add}
 use Prim.Native.Nat.pow
 use Rattle.std.proofs.Math.Nat.{pow-zero, mul-mod_left}
@@ -16,7 +16,7 @@ use Rattle.std.proofs.lemmas.Int.Digits.{number_digits_of, number_lt, all_below_
 use Rattle.refusal.specs.declared.Why.{Why}
 use Rattle.refusal.specs.declared.Why.TheVariants.{BodyLength, SpareBits}
 use Rattle.predict.specs.Wrap.{Word, ◌⊞◌}
-use Rattle.pack.specs.Packing.{Reading, numbers, refused, PackingMeaning}
+use Rattle.pack.specs.Packing.{PackingMeaning}
 use Rattle.pack.specs.Plain.{le_word, word_back}
 use Rattle.pack.specs.Digits.{digits, length_digits, digits_number, number_digits}
 use Rattle.pack.specs.Fields.{room, spare, fields, width, fielded_reads, least, gap, greatest, width_of, laid, packed, fielded_writes}
@@ -44,14 +44,14 @@ module _ (w : ℕ) (fs : List ℕ) (small : AllBelowBase (2 ^ w) fs) where
   pub fields_laid : fields n w (laid w fs) ≡ fs
   fields_laid = ap (λ (m : ℕ). digits (2 ^ w) n (m / 2 ^ spare n w)) number-laid ∙ ap (digits (2 ^ w) n) (shl-shr (number_from_digits (2 ^ w) fs) (spare n w)) ∙ digits_number (2 ^ w) fs small
 
-  pub body-read : (base : ℤ) → Word base → w ≤ 32 → fielded_reads n (packed base w fs) ≡ numbers (map (λ f. base ⊞ pos f) fs)
+  pub body-read : (base : ℤ) → Word base → w ≤ 32 → fielded_reads n (packed base w fs) ≡ Ok (map (λ f. base ⊞ pos f) fs)
   body-read base word narrow =
       let long : length (laid w fs) ≡ room n w = length_digits 256 (room n w) (number_from_digits (2 ^ w) fs * 2 ^ spare n w) in
       taken _ _ (le-leb 5 (length (packed base w fs)) (omega arith))
       ∙ taken _ _ (le-leb w 32 narrow)
       ∙ taken _ _ (eq-eqb (length (packed base w fs)) (5 + room n w) (omega arith))
       ∙ taken _ _ (eq-eqb _ 0 (ap (λ (m : ℕ). m % 2 ^ spare n w) number-laid ∙ mul-mod_left (number_from_digits (2 ^ w) fs) (2 ^ spare n w)))
-      ∙ ap numbers (ap₂ (λ (b : ℤ) (gs : List ℕ). map (λ f. b ⊞ pos f) gs) (word_back base (w ∷ laid w fs) word) fields_laid)
+      ∙ ap Ok (ap₂ (λ (b : ℤ) (gs : List ℕ). map (λ f. b ⊞ pos f) gs) (word_back base (w ∷ laid w fs) word) fields_laid)
 
 -- ---- the base and the width
 
@@ -102,18 +102,18 @@ least-word (x ∷ xs) words =
 pub narrow-width : (xs : List ℤ) → AllByRecursion Word xs → width_of (map (gap (least xs)) xs) ≤ 32
 narrow-width xs words = length-digits_of-le 2 32 _ (lit≤ tt) (gaps-small (least xs) xs (least-word xs words) words (least-low xs))
 
-pub fielded-back : (xs : List ℤ) → AllByRecursion Word xs → fielded_reads (length xs) (fielded_writes xs) ≡ numbers xs
+pub fielded-back : (xs : List ℤ) → AllByRecursion Word xs → fielded_reads (length xs) (fielded_writes xs) ≡ Ok xs
 fielded-back xs words =
     let b = least xs in
     let fs = map (gap b) xs in
     let long : length fs ≡ length xs = length-map xs (gap b) in
     ap (λ (n : ℕ). fielded_reads n (fielded_writes xs)) (sym long)
     ∙ body-read (width_of fs) fs (under-greatest fs _ (under-width (greatest fs))) b (least-word xs words) (narrow-width xs words)
-    ∙ ap numbers (gaps-back b xs words (least-low xs))
+    ∙ ap Ok (gaps-back b xs words (least-low xs))
 
 -- every way that a body is read, by what holds of a list and of a refusal
-pub by_read : (n : ℕ) (body : List ℕ) (Q : Reading → Type 0) → Q (refused BodyLength) → Q (refused SpareBits) →
-    (5 ≤ length body → slice_index body 4 ≤ 32 → length body ≡ 5 + room n (slice_index body 4) → number_from_digits 256 (drop 5 body) % 2 ^ spare n (slice_index body 4) ≡ 0 → Q (numbers (map (λ f. le_word body ⊞ pos f) (fields n (slice_index body 4) (drop 5 body))))) →
+pub by_read : (n : ℕ) (body : List ℕ) (Q : Result (List ℤ) Why → Type 0) → Q (Err BodyLength) → Q (Err SpareBits) →
+    (5 ≤ length body → slice_index body 4 ≤ 32 → length body ≡ 5 + room n (slice_index body 4) → number_from_digits 256 (drop 5 body) % 2 ^ spare n (slice_index body 4) ≡ 0 → Q (Ok (map (λ f. le_word body ⊞ pos f) (fields n (slice_index body 4) (drop 5 body))))) →
     Q (fielded_reads n body)
 by_read n body Q length-no spare-no list =
     let w = width body in
@@ -126,7 +126,7 @@ by_read n body Q length-no spare-no list =
     (λ _. length-no))
     (λ _. length-no)
 
-no-list : {A : Type 0} (r : Why) (xs : List ℤ) → refused r ≡ numbers xs → A
+no-list : {A : Type 0} (r : Why) (xs : List ℤ) → Err r ≡ Ok xs → A
 no-list r xs e = let z : ◌≡◌ {A = ℕ} 0 1 = cc in absurd (omega arith)
 
 all-wrapped : (b : ℤ) (fs : List ℕ) → AllByRecursion Word (map (λ f. b ⊞ pos f) fs)
@@ -140,19 +140,19 @@ module _ (n : ℕ) (body : List ℕ) where
   abbrev list : List ℤ
   list = map (λ f. le_word body ⊞ pos f) found
 
-  pub fielded-counts : (xs : List ℤ) → fielded_reads n body ≡ numbers xs → length xs ≡ n
+  pub fielded-counts : (xs : List ℤ) → fielded_reads n body ≡ Ok xs → length xs ≡ n
   fielded-counts xs =
-      by_read n body (λ r. r ≡ numbers xs → length xs ≡ n) (no-list BodyLength xs) (no-list SpareBits xs)
+      by_read n body (λ r. r ≡ Ok xs → length xs ≡ n) (no-list BodyLength xs) (no-list SpareBits xs)
       (λ _ _ _ _ e. let same : list ≡ xs = cc in ap length (sym same) ∙ length-map found (λ f. le_word body ⊞ pos f) ∙ length_digits _ n _)
 
-  pub fielded-words : (xs : List ℤ) → fielded_reads n body ≡ numbers xs → AllByRecursion Word xs
+  pub fielded-words : (xs : List ℤ) → fielded_reads n body ≡ Ok xs → AllByRecursion Word xs
   fielded-words xs =
-      by_read n body (λ r. r ≡ numbers xs → AllByRecursion Word xs) (no-list BodyLength xs) (no-list SpareBits xs)
+      by_read n body (λ r. r ≡ Ok xs → AllByRecursion Word xs) (no-list BodyLength xs) (no-list SpareBits xs)
       (λ _ _ _ _ e. let same : list ≡ xs = cc in subst (AllByRecursion Word) same (all-wrapped (le_word body) found))
 
-  pub fielded-refusals : (r : Why) → fielded_reads n body ≡ refused r → (r ≡ BodyLength) ⊎ (r ≡ SpareBits)
+  pub fielded-refusals : (r : Why) → fielded_reads n body ≡ Err r → (r ≡ BodyLength) ⊎ (r ≡ SpareBits)
   fielded-refusals r =
-      by_read n body (λ o. o ≡ refused r → (r ≡ BodyLength) ⊎ (r ≡ SpareBits)) (λ e. inl (cc)) (λ e. inr (cc))
+      by_read n body (λ o. o ≡ Err r → (r ≡ BodyLength) ⊎ (r ≡ SpareBits)) (λ e. inl (cc)) (λ e. inr (cc))
       (λ _ _ _ _ e. let z : ◌≡◌ {A = ℕ} 0 1 = cc in absurd (omega arith))
 
 pub fielded-short : (xs : List ℤ) → AllByRecursion Word xs → length (fielded_writes xs) ≤ 8 + 4 * length xs

@@ -1,151 +1,161 @@
 // Packings: a list of 32-bit numbers as the bytes of a file, and back.
 #![tactic(auto)]
 
-ghost use Rattle.std.specs.Prelude.{◌≡◌, ℕ, ◌+◌, ◌-◌, ◌*◌, ◌/◌, ◌%◌, ◌^◌, ◌<◌, ◌≤◌, ◌∷◌, ◌++◌, map, length, take, drop};
+ghost use Rattle.std.specs.Prelude.{◌≡◌, ℕ, ◌+◌, ◌-◌, ◌*◌, ◌/◌, ◌%◌, ◌^◌, ◌<◌, ◌≤◌, ◌∷◌, ◌++◌, map, length, take, drop, All, Contains, ◌≤ℤ◌, refl};
 ghost use Rattle.std.specs.Int.Digits.{number_from_digits, AllBelowBase};
-ghost use Rattle.pack.specs.Packing.{PackingMeaning, Counted, Accepted, verdict, entry as Entry};
-ghost use Rattle.pack.specs.Plain.{plain, le_bytes, le_at};
-ghost use Rattle.pack.specs.Fields.{least, gap, width_of, room, laid};
+ghost use Rattle.kinds.specs.Count.{IsVertexCount};
+ghost use Rattle.pack.specs.Packing.{ReadingMeaning, PackingMeaning, Accepted, verdict, entry as Entry};
+ghost use Rattle.pack.specs.Plain.{plain, le_bytes};
+ghost use Rattle.pack.specs.Fields.{least, gap, width_of, room, laid, fielded_writes};
 ghost use Rattle.pack.specs.Fielded.{fielded};
 ghost use Rattle.pack.specs.Laws.{HighFirst, OnlyPacked};
 ghost use Rattle.pack.specs.Figures.{Figures};
 
+use kinds::VertexCount;
 use refusal::Why;
 
-// A way to write a list as a body of bytes, and to read it again.
-pub trait Packing {
+// A packing, to a reader: what a body of bytes means.
+pub trait Unpacking {
     const NUMBER: u8;
 
-    ghost means: { PackingMeaning };
+    ghost NUMBER: { ℕ };
 
-    // `NUMBER`, as the meaning has it.
-    fn tag() -> u8
-        ensures { result ≡ means.reading.number };
+    ghost reading: { ReadingMeaning };
+
+    // Whether the body is one of `n` entries.
+    fn judge(body: &[u8], n: VertexCount) -> Result<(), Why>
+        ensures { result ≡ verdict (reading.reads n body.now) };
+
+    // Entry `i` of a body that was accepted.
+    fn entry(body: &[u8], n: VertexCount, i: usize) -> i32
+        requires due { i < n }
+        requires accepted { Accepted (reading.reads n body.now) }
+        ensures { result ≡ Entry (reading.reads n body.now) i };
+
+    // The number that a file gives is the packing's.
+    ghost numbered: { NUMBER ≡ reading.number };
+}
+
+// And to a writer: what is written is read back.
+pub trait Packing: Unpacking {
+    ghost means: { PackingMeaning };
 
     // How many bytes the list's body takes.
     fn body_length(list: &[i32]) -> usize
-        requires { Counted (length list.now) }
+        requires { IsVertexCount (length list.now) }
         ensures size { result ≡ length (means.writes list.now) }
         ensures short { result ≤ 8 + 4 * length list.now };
 
     // Writes the list's body to the front of `body`; what follows stays.
     fn write(list: &[i32], body: &mut [u8])
-        requires { (Counted (length list.now)) × (length (means.writes list.now) ≤ length body.old) }
+        requires counted { IsVertexCount (length list.now) }
+        requires room { length (means.writes list.now) ≤ length body.old }
         ensures { body.new ≡ means.writes list.now ++ drop (length (means.writes list.now)) body.old };
 
-    // Whether the body is one of `n` entries.
-    fn judge(body: &[u8], n: usize) -> Result<(), Why>
-        requires { Counted n }
-        ensures { result ≡ verdict (means.reading.reads n body.now) };
-
-    // Entry `i` of a body that was accepted.
-    fn entry(body: &[u8], n: usize, i: usize) -> i32
-        requires { (Counted n) × ((i < n) × (Accepted (means.reading.reads n body.now))) }
-        ensures { result ≡ Entry (means.reading.reads n body.now) i };
+    // It is written for this very reader.
+    ghost read_back: { means.reading ≡ Self.reading };
 }
 
 // Four bytes for each entry, the lowest first.
 pub struct Plain;
 
-impl Packing for Plain {
+impl Unpacking for Plain {
     const NUMBER: u8 = 0;
 
-    ghost means = { plain };
+    ghost NUMBER = { 0 };
 
-    fn tag() -> u8 {
-        Self::NUMBER
-    }
+    ghost reading = { plain.reading };
 
-    fn body_length(list: &[i32]) -> usize {
-        4 * list.len()
-    }
+    ghost numbered = { refl };
 
-    fn write(list: &[i32], body: &mut [u8]) {
-        for i in 0..list.len() {
-            let [a, b, c, d] = word_bytes(list[i]);
-            body[4 * i] = a;
-            body[4 * i + 1] = b;
-            body[4 * i + 2] = c;
-            body[4 * i + 3] = d;
-        }
-    }
-
-    fn judge(body: &[u8], n: usize) -> Result<(), Why> {
-        if body.len() == 4 * n {
+    fn judge(body: &[u8], n: VertexCount) -> Result<(), Why> {
+        if body.len() == 4 * n.get() {
             Ok(())
         } else {
             Err(Why::BodyLength)
         }
     }
 
-    fn entry(body: &[u8], _n: usize, i: usize) -> i32 {
-        word_at(body, 4 * i)
+    fn entry(body: &[u8], _n: VertexCount, i: usize) -> i32 {
+        let (words, _rest) = body.as_chunks::<4>();
+        i32::from_le_bytes(words[i])
+    }
+}
+
+impl Packing for Plain {
+    ghost means = { plain };
+
+    ghost read_back = { refl };
+
+    #[tactic(auto, using(crate::specs::Plain::length_spelled))]
+    fn body_length(list: &[i32]) -> usize {
+        4 * list.len()
+    }
+
+    #[tactic(auto, using(crate::specs::Plain::length_spelled))]
+    fn write(list: &[i32], body: &mut [u8]) {
+        for (i, x) in list.iter().enumerate() {
+            body[4 * i..4 * i + 4].copy_from_slice(&x.to_le_bytes());
+        }
     }
 }
 
 // A base, a width, and a field of that many bits for each entry, the high bit first.
 pub struct Fielded;
 
-impl Packing for Fielded {
+impl Unpacking for Fielded {
     const NUMBER: u8 = 1;
 
-    ghost means = { fielded };
+    ghost NUMBER = { 1 };
 
-    fn tag() -> u8 {
-        Self::NUMBER
-    }
+    ghost reading = { fielded.reading };
 
-    fn body_length(list: &[i32]) -> usize {
-        let w = width_over(smallest(list), list);
-        5 + room_of(list.len(), w as usize)
-    }
+    ghost numbered = { refl };
 
-    fn write(list: &[i32], body: &mut [u8]) {
-        let base = smallest(list);
-        let w = width_over(base, list);
-        head(base, w, body);
-        lay(list, base, w, &mut body[5..]);
-    }
-
-    fn judge(body: &[u8], n: usize) -> Result<(), Why> {
-        if body.len() < 5 {
+    fn judge(body: &[u8], n: VertexCount) -> Result<(), Why> {
+        let n = n.get();
+        let [_, _, _, _, width, fields @ ..] = body else {
             return Err(Why::BodyLength);
-        }
-        let w = body[4] as usize;
+        };
+        let w = usize::from(*width);
         if w > 32 {
             return Err(Why::BodyLength);
         }
         let bytes = room_of(n, w);
-        if body.len() != 5 + bytes {
+        if fields.len() != bytes {
             return Err(Why::BodyLength);
         }
-        if spare_bits(body, 8 * bytes - n * w) == 0 {
+        if spare_bits(fields, 8 * bytes - n * w) == 0 {
             Ok(())
         } else {
             Err(Why::SpareBits)
         }
     }
 
-    fn entry(body: &[u8], _n: usize, i: usize) -> i32 {
-        let base = word_at(body, 0);
-        let w = body[4] as usize;
-        base.wrapping_add_unsigned(field(&body[5..], i * w, w))
+    fn entry(body: &[u8], _n: VertexCount, i: usize) -> i32 {
+        let [a, b, c, d, width, fields @ ..] = body else {
+            unreachable!()
+        };
+        let base = i32::from_le_bytes([*a, *b, *c, *d]);
+        let w = usize::from(*width);
+        base.wrapping_add_unsigned(field(fields, i * w, w))
     }
 }
 
-// A number as four bytes, the lowest first.
-fn word_bytes(x: i32) -> [u8; 4]
-    ensures { result ≡ le_bytes x }
-{
-    x.to_le_bytes()
-}
+impl Packing for Fielded {
+    ghost means = { fielded };
 
-// The number that the four bytes from `at` on write.
-fn word_at(body: &[u8], at: usize) -> i32
-    requires { at + 4 ≤ length body.now }
-    ensures { result ≡ le_at body.now at }
-{
-    i32::from_le_bytes([body[at], body[at + 1], body[at + 2], body[at + 3]])
+    ghost read_back = { refl };
+
+    fn body_length(list: &[i32]) -> usize {
+        Framed::of(list).body_length()
+    }
+
+    fn write(list: &[i32], body: &mut [u8]) {
+        let framed = Framed::of(list);
+        framed.write_head(body);
+        framed.lay(&mut body[5..]);
+    }
 }
 
 // How many bytes `n` fields of `w` bits take.
@@ -159,74 +169,83 @@ fn room_of(n: usize, w: usize) -> usize
 // The smallest entry: the base.
 fn smallest(list: &[i32]) -> i32
     requires { 0 < length list.now }
-    ensures { result ≡ least list.now }
+    ensures bound { All (λ x. result ≤ℤ x) list.now }
+    ensures among { Contains list.now result }
 {
-    let mut low = list[0];
-    for i in 1..list.len() {
-        low = low.min(list[i]);
-    }
-    low
+    list.iter().copied().min().unwrap()
+}
+
+// The greatest of the list's differences to `base`.
+fn widest(base: i32, list: &[i32]) -> u32
+    requires { 0 < length list.now }
+    ensures bound { All (λ f. f ≤ result) (map (gap base) list.now) }
+    ensures among { Contains (map (gap base) list.now) result }
+{
+    list.iter().map(|x| x.abs_diff(base)).max().unwrap()
+}
+
+// How many bits a number takes.
+fn bits_of(number: u32) -> u32
+    ensures holds { number < 2 ^ result }
+    ensures smallest { (w : ℕ) → number < 2 ^ w → result ≤ w }
+    ensures bound { result ≤ 32 }
+{
+    number.checked_ilog2().map_or(0, |power| power + 1)
 }
 
 // The smallest width that holds the list's differences to `base`.
 fn width_over(base: i32, list: &[i32]) -> u32
+    requires { 0 < length list.now }
     ensures value { result ≡ width_of (map (gap base) list.now) }
     ensures narrow { result ≤ 32 }
     ensures holds { AllBelowBase (2 ^ result) (map (gap base) list.now) }
     ensures smallest { (v : ℕ) → AllBelowBase (2 ^ v) (map (gap base) list.now) → result ≤ v }
 {
-    let mut most: u32 = 0;
-    for x in list {
-        most = most.max(x.abs_diff(base));
-    }
-    32 - most.leading_zeros()
+    bits_of(widest(base, list))
 }
 
 // The last `k` bits of the fields' bytes.
-fn spare_bits(body: &[u8], k: usize) -> u8
-    requires { (5 ≤ length body.now) × (k < 8) }
-    ensures { result ≡ number_from_digits 256 (drop 5 body.now) % 2 ^ k }
+fn spare_bits(bytes: &[u8], k: usize) -> u8
+    requires { k < 8 }
+    ensures { result ≡ number_from_digits 256 bytes.now % 2 ^ k }
 {
-    if body.len() == 5 {
-        0
-    } else {
-        body[body.len() - 1] % (1 << k)
+    match bytes {
+        [.., last] => last % (1 << k),
+        [] => 0,
     }
 }
 
-// The number that the eight bytes from `start` on write, the highest first.
-fn eight(bytes: &[u8], start: usize) -> u64
-    requires { start + 8 ≤ length bytes.now }
-    ensures { number_from_digits 256 (take (start + 8) bytes.now) ≡ number_from_digits 256 (take start bytes.now) * 2 ^ (8 * (start + 8 - start)) + result }
+// The number that at most eight bytes write, the highest first.
+fn number_of(bytes: &[u8]) -> u64
+    requires { length bytes.now ≤ 8 }
+    ensures { result ≡ number_from_digits 256 bytes.now }
 {
-    u64::from_be_bytes([
-        bytes[start],
-        bytes[start + 1],
-        bytes[start + 2],
-        bytes[start + 3],
-        bytes[start + 4],
-        bytes[start + 5],
-        bytes[start + 6],
-        bytes[start + 7],
-    ])
+    let mut eight = [0; 8];
+    eight[8 - bytes.len()..].copy_from_slice(bytes);
+    u64::from_be_bytes(eight)
 }
 
-// The `w` bits from the bit `at` on: they lie in at most five bytes. Where eight are left, they are read at once.
+// The last `w` of the bits above the last `below`.
+fn bits_over(number: u64, below: usize, w: usize) -> u32
+    requires { (below < 64) × (w ≤ 32) }
+    ensures { result ≡ number / 2 ^ below % 2 ^ w }
+{
+    ((number >> below) % (1 << w)) as u32
+}
+
+// The `w` bits from the bit `at` on. They lie in the first five of the bytes read, which are eight where so many are left.
 fn field(bytes: &[u8], at: usize, w: usize) -> u32
     requires { (w ≤ 32) × ((at + w ≤ 8 * length bytes.now) × (length bytes.now ≤ 65536)) }
     ensures { result ≡ number_from_digits 256 bytes.now / 2 ^ (8 * length bytes.now - (at + w)) % 2 ^ w }
 {
+    if w == 0 {
+        return 0;
+    }
     let start = at / 8;
-    if w > 0 && start + 8 <= bytes.len() {
-        let sum = eight(bytes, start);
-        return ((sum >> (8 * (start + 8) - (at + w))) % (1 << w)) as u32;
+    if let Some(eight) = bytes[start..].first_chunk::<8>() {
+        return bits_over(u64::from_be_bytes(*eight), 8 * (start + 8) - (at + w), w);
     }
-    let end = (at + w + 7) / 8;
-    let mut sum: u64 = 0;
-    for j in start..end {
-        sum = 256 * sum + u64::from(bytes[j]);
-    }
-    ((sum >> (8 * end - (at + w))) % (1 << w)) as u32
+    bits_over(number_of(&bytes[start..]), 8 * bytes.len() - (at + w), w)
 }
 
 // The bits of `acc` above the last `have`: at most eight.
@@ -237,51 +256,73 @@ fn bits_above(acc: u64, have: u32) -> u8
     (acc >> have) as u8
 }
 
-// Writes the base and the width.
-fn head(base: i32, w: u32, body: &mut [u8])
-    requires { (w ≤ 32) × (5 ≤ length body.old) }
-    ensures { body.new ≡ le_bytes base ++ (w ∷ drop 5 body.old) }
-{
-    let [a, b, c, d] = word_bytes(base);
-    body[0] = a;
-    body[1] = b;
-    body[2] = c;
-    body[3] = d;
-    body[4] = w as u8;
+// A list with its base, which is its smallest entry, and its width, which holds each entry's difference to the base.
+#[derive(Drop)]
+struct Framed<'a> {
+    list: &'a [i32],
+    base: i32,
+    width: u32,
+    ghost counted: { IsVertexCount (length list.now) },
+    ghost lowest: { base ≡ least list.now },
+    ghost narrowest: { width ≡ width_of (map (gap base) list.now) },
+    ghost narrow: { width ≤ 32 },
 }
 
-// Writes the list's differences to `base` as fields of `w` bits; what follows them stays.
-fn lay(list: &[i32], base: i32, w: u32, out: &mut [u8])
-    requires short { length list.now ≤ 4096 }
-    requires narrow { w ≤ 32 }
-    requires small { AllBelowBase (2 ^ w) (map (gap base) list.now) }
-    requires space { room (length list.now) w ≤ length out.old }
-    ensures { out.new ≡ laid w (map (gap base) list.now) ++ drop (room (length list.now) w) out.old }
-{
-    // the last `have` bits, not yet written, and where the next byte goes
-    let mut acc: u64 = 0;
-    let mut have: u32 = 0;
-    let mut at: usize = 0;
-    for x in list {
-        acc = (acc << w) + u64::from(x.abs_diff(base));
-        have += w;
-        while have >= 8 {
-            have -= 8;
-            out[at] = bits_above(acc, have);
-            acc %= 1 << have;
-            at += 1;
-        }
+impl<'a> Framed<'a> {
+    fn of(list: &'a [i32]) -> Framed<'a>
+        requires { IsVertexCount (length list.now) }
+        ensures { result.list.now ≡ list.now }
+    {
+        let base = smallest(list);
+        let width = width_over(base, list);
+        Framed { list, base, width }
     }
-    if have > 0 {
-        out[at] = (acc << (8 - have)) as u8;
+
+    fn body_length(&self) -> usize
+        ensures size { result ≡ length (fielded_writes self.now.list.now) }
+        ensures short { result ≤ 8 + 4 * length self.now.list.now }
+    {
+        5 + room_of(self.list.len(), self.width as usize)
+    }
+
+    // Writes the base and the width.
+    fn write_head(&self, body: &mut [u8])
+        requires { 5 ≤ length body.old }
+        ensures { body.new ≡ le_bytes self.now.base ++ (self.now.width ∷ drop 5 body.old) }
+    {
+        body[..4].copy_from_slice(&self.base.to_le_bytes());
+        body[4] = self.width as u8;
+    }
+
+    // Writes the fields; what follows them stays.
+    fn lay(&self, out: &mut [u8])
+        requires { room (length self.now.list.now) self.now.width ≤ length out.old }
+        ensures { let fields = map (gap self.now.base) self.now.list.now in
+            out.new ≡ laid self.now.width fields ++ drop (room (length self.now.list.now) self.now.width) out.old }
+    {
+        // the last `have` bits, not yet written, and where the next byte goes
+        let mut acc: u64 = 0;
+        let mut have: u32 = 0;
+        let mut at: usize = 0;
+        for x in self.list {
+            acc = (acc << self.width) + u64::from(x.abs_diff(self.base));
+            have += self.width;
+            while have >= 8 {
+                have -= 8;
+                out[at] = bits_above(acc, have);
+                acc %= 1 << have;
+                at += 1;
+            }
+        }
+        if have > 0 {
+            out[at] = (acc << (8 - have)) as u8;
+        }
     }
 }
 
 // Where a field's bits lie, which bodies are accepted, and figures reckoned by hand.
-pub fn fields_high_first() -> u8
+pub fn fields_high_first()
     ensures bits { HighFirst }
     ensures bodies { OnlyPacked }
     ensures figures { Figures }
-{
-    0
-}
+{}

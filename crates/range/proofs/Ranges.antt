@@ -1,14 +1,13 @@
 -- The laws of a range record, by its scale.
-use Rattle.std.proofs.Common.{◌≡◌, ◌+◌, ◌*◌, ◌^◌, ◌<◌, ◌≤◌, true, ◌&&◌, T, leb, ℤ, pos, ◌-ℤ◌, ◌*ℤ◌, nat_abs, ◌≤ℤ◌, None, refl, arith, le→leb}
+use Rattle.std.proofs.Common.{◌≡◌, ◌+◌, ◌*◌, ◌^◌, ◌<◌, ◌≤◌, true, ◌&&◌, T, leb, ℤ, pos, ◌-ℤ◌, ◌*ℤ◌, nat_abs, ◌≤ℤ◌, None, refl, ap₂, arith, le→leb}
 use lib.Signed.{le_z, lt_z}
 use lib.Ieee.Fits.{and_l, and_r, and_i}
 use borrow.Author.Differences.{ints}
 use Rattle.range.specs.Codes.{numerator}
 use Rattle.range.specs.Judged.{refusal}
 use Rattle.range.specs.Laws.{Between, OnTable}
-use Rattle.range.specs.Scale.{Scale, scale_of, scale_from, lowest, highest, quanta, width, inside, is_code, code_in, place_in}
+use Rattle.range.specs.Scale.{Scale, IsRange, scale_from, lowest, highest, quanta, width, inside, is_code, code_in, place_in}
 use Rattle.range.specs.Units.{good_end, units_of}
-use Rattle.range.specs.declared.range.Range.{Range}
 use Rattle.range.proofs.Coding as Coding
 use Rattle.range.proofs.Meaning.{plain-same}
 use Rattle.range.proofs.Rounded.{top_small}
@@ -31,51 +30,51 @@ pub code-nat : (s : Scale) (c : ℤ) → is_code s c ≡ true → (c ≡ pos (na
 code-nat s c h = let k = from-test (pos 0) c (pos (quanta s)) h in (omega (arith, ints, k.0), omega (arith, ints, k.0, k.1))
 
 -- the greatest code is 1 to 2 ^ 24 - 1
-pub quanta-small : (g : Range) → (0 < quanta (scale_of g)) × (quanta (scale_of g) < 2 ^ 24)
-quanta-small g = (Coding.top_pos g.bits g.width.0, top_small g.bits g.width.1)
+pub quanta-small : (g : Scale) (is : IsRange g) → (0 < quanta g) × (quanta g < 2 ^ 24)
+quanta-small g is = (Coding.top_pos g.bits is.wide.0, top_small g.bits is.wide.1)
 
 -- the ends are in order, and at most 2 ^ 24 units from zero
-pub ends-on-table : (g : Range) → OnTable (lowest (scale_of g)) (highest (scale_of g))
-ends-on-table g = (g.ordered, units_small g.lower g.low.0, units_small g.upper g.high.0)
+pub ends-on-table : (g : Scale) (is : IsRange g) → OnTable (lowest g) (highest g)
+ends-on-table g is = (is.ordered, units_small g.lower is.low.0, units_small g.upper is.high.0)
 
 -- a range is not refused by its own bits and ends, and made from them says the same
-pub stays : (g : Range) → (refusal g.bits g.lower g.upper ≡ None) × (scale_from g.bits g.lower g.upper ≡ scale_of g)
-stays g =
-    let e1 : leb 1 g.bits ≡ true = holds (leb 1 g.bits) (le→leb 1 g.bits g.width.0) in
-    let e2 : leb g.bits 24 ≡ true = holds (leb g.bits 24) (le→leb g.bits 24 g.width.1) in
-    let e3 : good_end g.lower ≡ true = g.low.0 in
-    let e4 : good_end g.upper ≡ true = g.high.0 in
-    let e5 : lt_z (units_of g.lower) (units_of g.upper) ≡ true = holds _ g.ordered.lt in
-    let l = plain-same g.lower g.held.0 g.low.1 in
-    let u = plain-same g.upper g.held.1 g.high.1 in
-    (rw (e1, e2, e3, e4, e5) refl, cc)
+pub stays : (g : Scale) (is : IsRange g) → (refusal g.bits g.lower g.upper ≡ None) × (scale_from g.bits g.lower g.upper ≡ g)
+stays g is =
+    let e1 : leb 1 g.bits ≡ true = holds (leb 1 g.bits) (le→leb 1 g.bits is.wide.0) in
+    let e2 : leb g.bits 24 ≡ true = holds (leb g.bits 24) (le→leb g.bits 24 is.wide.1) in
+    let e3 : good_end g.lower ≡ true = is.low.0 in
+    let e4 : good_end g.upper ≡ true = is.high.0 in
+    let e5 : lt_z (units_of g.lower) (units_of g.upper) ≡ true = holds _ is.ordered.lt in
+    let l = plain-same g.lower is.held.0 is.low.1 in
+    let u = plain-same g.upper is.held.1 is.high.1 in
+    (rw (e1, e2, e3, e4, e5) refl, ap₂ (λ a b. record { bits = g.bits; lower = a; upper = b }) l u)
 
 -- coordinates inside a range
-module _ (g : Range) (v : ℤ) (h : inside (scale_of g) v ≡ true) where
-  between : Between (lowest (scale_of g)) (highest (scale_of g)) v
-  between = let k = inside-ends (scale_of g) v h in (g.ordered, k.0, k.1)
+module _ (g : Scale) (is : IsRange g) (v : ℤ) (h : inside g v ≡ true) where
+  between : Between (lowest g) (highest g) v
+  between = let k = inside-ends g v h in (is.ordered, k.0, k.1)
 
   -- the code of a coordinate is a code
-  pub code-within : is_code (scale_of g) (code_in (scale_of g) v) ≡ true
+  pub code-within : is_code g (code_in g v) ≡ true
   unfolding code_in
-  code-within = to-test (pos 0) (code_in (scale_of g) v) (pos (quanta (scale_of g))) (Coding.code-in-range g.bits (lowest (scale_of g)) (highest (scale_of g)) v between)
+  code-within = to-test (pos 0) (code_in g v) (pos (quanta g)) (Coding.code-in-range g.bits (lowest g) (highest g) v between)
 
   -- 2 |M v - N| ≤ D, for the N of its code
-  pub quantum-near : 2 * nat_abs (pos (quanta (scale_of g)) *ℤ v -ℤ numerator g.bits (lowest (scale_of g)) (highest (scale_of g)) (nat_abs (code_in (scale_of g) v))) ≤ width (scale_of g)
+  pub quantum-near : 2 * nat_abs (pos (quanta g) *ℤ v -ℤ numerator g.bits (lowest g) (highest g) (nat_abs (code_in g v))) ≤ width g
   unfolding code_in
-  quantum-near = Coding.half-a-quantum g.bits (lowest (scale_of g)) (highest (scale_of g)) v between
+  quantum-near = Coding.half-a-quantum g.bits (lowest g) (highest g) v between
 
   -- 2 M |v - 16 p| ≤ D + 16 M, for the place p of its code
-  pub place-near : 2 * quanta (scale_of g) * nat_abs (v -ℤ pos 16 *ℤ place_in (scale_of g) (code_in (scale_of g) v)) ≤ width (scale_of g) + 16 * quanta (scale_of g)
+  pub place-near : 2 * quanta g * nat_abs (v -ℤ pos 16 *ℤ place_in g (code_in g v)) ≤ width g + 16 * quanta g
   unfolding code_in place_in
-  place-near = Coding.place-near g.bits (lowest (scale_of g)) (highest (scale_of g)) v g.width.0 between
+  place-near = Coding.place-near g.bits (lowest g) (highest g) v is.wide.0 between
 
 -- |16 M p - N| ≤ 8 M, for the place p and the N of a code
-pub step-near : (g : Range) (c : ℤ) → nat_abs (pos (16 * quanta (scale_of g)) *ℤ place_in (scale_of g) c -ℤ numerator g.bits (lowest (scale_of g)) (highest (scale_of g)) (nat_abs c)) ≤ 8 * quanta (scale_of g)
+pub step-near : (g : Scale) (is : IsRange g) (c : ℤ) → nat_abs (pos (16 * quanta g) *ℤ place_in g c -ℤ numerator g.bits (lowest g) (highest g) (nat_abs c)) ≤ 8 * quanta g
 unfolding place_in
-step-near g c = Coding.half-a-step g.bits (lowest (scale_of g)) (highest (scale_of g)) (nat_abs c) g.width.0
+step-near g is c = Coding.half-a-step g.bits (lowest g) (highest g) (nat_abs c) is.wide.0
 
 -- the place of a code is at most 2 ^ 20 steps from zero
-pub place-within : (g : Range) (c : ℤ) → is_code (scale_of g) c ≡ true → nat_abs (place_in (scale_of g) c) ≤ 1048576
+pub place-within : (g : Scale) (is : IsRange g) (c : ℤ) → is_code g c ≡ true → nat_abs (place_in g c) ≤ 1048576
 unfolding place_in
-place-within g c h = Coding.places-bounded g.bits (lowest (scale_of g)) (highest (scale_of g)) (nat_abs c) g.width.0 (ends-on-table g) (code-nat (scale_of g) c h).1
+place-within g is c h = Coding.places-bounded g.bits (lowest g) (highest g) (nat_abs c) is.wide.0 (ends-on-table g is) (code-nat g c h).1

@@ -1,5 +1,6 @@
 -- The sums that `code` and `place` work out, as the machine has them.
-use Rattle.std.proofs.Common.{◌≡◌, ℕ, zero, suc, ◌+◌, ◌*◌, ◌/◌, ◌^◌, ◌<◌, ◌≤◌, ℤ, pos, negsuc, ◌+ℤ◌, ◌-ℤ◌, ◌*ℤ◌, neg_ℤ, nat_abs, ◌≤ℤ◌, ◌<ℤ◌, sym, refl, ap, ◌∙◌, subst, mul-le-mul_right, mul_assoc, div-lt_iff_lt-mul, mul-le-mul, mul-le-mul_left, arith, pow_pos, pow_mono, to_z-of_z, w32, w64, SFits, to_z, of_z}
+use Rattle.std.proofs.Common.{◌≡◌, ℕ, suc, ◌+◌, ◌*◌, ◌/◌, ◌^◌, ◌<◌, ◌≤◌, ℤ, pos, negsuc, ◌+ℤ◌, ◌-ℤ◌, ◌*ℤ◌, neg_ℤ, nat_abs, ◌≤ℤ◌, ◌<ℤ◌, sym, refl, ap, ◌∙◌, subst, mul-le-mul_right, mul_assoc, div-lt_iff_lt-mul, mul-le-mul, mul-le-mul_left, arith, pow_pos, pow_mono, to_z-of_z, w32, w64, SFits, to_z, of_z}
+use Rattle.std.proofs.lemmas.Int.{unsigned_abs-mul}
 use borrow.Author.Differences.{ints}
 use Rattle.range.specs.Codes.{floor, top, span, code_of, place_of}
 use Rattle.std.specs.Int.{int_div_euclid}
@@ -28,14 +29,6 @@ code_is bits L H v f D t e d u =
 
 abbrev W : ℤ → ℤ
 W z = to_z w64 (of_z w64 z)
-
-abs_neg : (n : ℕ) → nat_abs (neg_ℤ (pos n)) ≡ n
-abs_neg zero = refl
-abs_neg (suc n) = refl
-
-pub product : (t : ℕ) (L : ℤ) → nat_abs (pos t *ℤ L) ≡ t * nat_abs L
-product t (pos n) = refl
-product t (negsuc n) = abs_neg (t * suc n)
 
 pub floor-in : (z : ℤ) (t : ℕ) → 0 < t → z ≤ℤ pos (16777224 * t) → neg_ℤ (pos (16777208 * t)) ≤ℤ z → nat_abs (floor z (16 * t)) ≤ 1048576
 floor-in (pos a) t p u d =
@@ -78,7 +71,7 @@ module _ (L : ℤ) (D t k : ℕ) (l : nat_abs L ≤ 16777216) (d : D ≤ 3355443
   top-is = omega (arith, ints)
 
   prod-1 : nat_abs (pos t *ℤ L) ≤ 281474976710656
-  prod-1 = let h : t ≤ 16777216 = omega arith in subst (λ (n : ℕ). n ≤ 281474976710656) (sym (product t L)) (mul-le-mul h l)
+  prod-1 = let h : t ≤ 16777216 = omega arith in subst (λ (n : ℕ). n ≤ 281474976710656) (sym (unsigned_abs-mul (pos t) L)) (mul-le-mul h l)
 
   prod-2 : k * D ≤ 562949953421312
   prod-2 = let h : k ≤ 16777216 = omega arith in mul-le-mul h d

@@ -1,10 +1,16 @@
-// A range record: a bit count and two ends in millimetres.
-ghost use Rattle.std.specs.Prelude.{◌≡◌, ◌≤◌, true};
+// A range: a bit count and two ends in millimetres; the codes of design coordinates, and the places of codes.
+ghost use Rattle.std.specs.Prelude.{◌≡◌, ◌+◌, ◌*◌, ◌/◌, ◌^◌, ◌<◌, ◌≤◌, true, pos, ◌-ℤ◌, ◌<ℤ◌, if◌then◌else◌, Some, None, IfSome, from_bits, to_bits, unsigned_abs};
 ghost use Rattle.std.specs.Float.{binary32};
-ghost use Rattle.std.specs.Float.Ieee.{fits};
-ghost use Rattle.range.specs.Units.{End as StoredEnd, Ordered};
+ghost use Rattle.std.specs.Int.{int_div_euclid};
+ghost use Rattle.range.specs.Scale.{Made, Reads, IsCode, IsRange, code_in, highest, inside, is_code, lowest, place_in, quanta, width as width_of};
 
-mod calls;
+use crate::ends::{
+    FARTHEST_UNITS, MOST_BITS, end_units, end_word, is_below, is_end, without_sign_of_zero,
+};
+use crate::words::Words;
+use refusal::Why;
+use std::marker::Model;
+use std::num::f32_from_bits_with_nan;
 
 // The bits are 1 to 24, the ends whole units, the lower below the upper, and neither is negative zero.
 #[derive(Clone, Copy)]
@@ -12,9 +18,208 @@ pub struct Range {
     bits: u8,
     lower: f32,
     upper: f32,
-    ghost width: { (1 ≤ bits) × (bits ≤ 24) },
-    ghost low: { StoredEnd lower },
-    ghost high: { StoredEnd upper },
-    ghost ordered: { Ordered lower upper },
-    ghost held: { (fits binary32 lower ≡ true) × (fits binary32 upper ≡ true) },
+}
+
+impl Model for Range {
+    ghost use Rattle.range.specs.Scale.{Scale, IsRange};
+
+    ghost Value = { Scale };
+
+    ghost view = { λ g. record { bits = g.bits; lower = g.lower; upper = g.upper } };
+
+    ghost invariant = { λ g. IsRange (record { bits = g.bits; lower = g.lower; upper = g.upper }) };
+
+    ghost inverse = { λ s. record { bits = s.bits; lower = s.lower; upper = s.upper } };
+}
+
+impl Range {
+    // The bits are judged first, then the ends, then their order.
+    pub fn new(bits: u8, lower: f32, upper: f32) -> Result<Range, Why>
+        ensures { Made bits lower upper result }
+    {
+        if bits < 1 || MOST_BITS < bits {
+            return Err(Why::Bits);
+        }
+        if !is_end(lower) || !is_end(upper) {
+            return Err(Why::End);
+        }
+        if !is_below(lower, upper) {
+            return Err(Why::Order);
+        }
+        let lower = without_sign_of_zero(lower);
+        let upper = without_sign_of_zero(upper);
+        Ok(Range { bits, lower, upper })
+    }
+
+    pub fn bits(&self) -> u8
+        ensures value { result ≡ self.now.bits }
+        ensures sound { IsRange self.now }
+    {
+        self.bits
+    }
+
+    // The lower end's word, as a file has it: read back, it is the end.
+    pub fn lower_word(&self) -> u32
+        ensures value { result ≡ to_bits binary32 self.now.lower }
+        ensures back { from_bits binary32 result ≡ self.now.lower }
+    {
+        end_word(self.lower)
+    }
+
+    // The upper end's word.
+    pub fn upper_word(&self) -> u32
+        ensures value { result ≡ to_bits binary32 self.now.upper }
+        ensures back { from_bits binary32 result ≡ self.now.upper }
+    {
+        end_word(self.upper)
+    }
+
+    pub fn lower_units(&self) -> i32
+        ensures value { result ≡ lowest self.now }
+        ensures bound { unsigned_abs result ≤ FARTHEST_UNITS }
+    {
+        end_units(self.lower)
+    }
+
+    pub fn upper_units(&self) -> i32
+        ensures value { result ≡ highest self.now }
+        ensures bound { unsigned_abs result ≤ FARTHEST_UNITS }
+    {
+        end_units(self.upper)
+    }
+
+    // The greatest code.
+    pub fn top(&self) -> u32
+        ensures value { result ≡ quanta self.now }
+        ensures bound { (0 < result) × (result < 2 ^ MOST_BITS) }
+    {
+        values_of(self.bits) - 1
+    }
+
+    // Whether a design coordinate, in units, lies in the range.
+    pub fn holds(&self, v: i32) -> bool
+        ensures { result ≡ inside self.now v }
+    {
+        self.lower_units() <= v && v <= self.upper_units()
+    }
+
+    // Whether a number is a code of the range.
+    pub fn is_code(&self, c: i32) -> bool
+        ensures { result ≡ is_code self.now c }
+    {
+        0 <= c && c <= self.top() as i32
+    }
+
+    // The code of a design coordinate in units, if the range holds it.
+    pub fn code(&self, v: i32) -> Option<i32>
+        ensures value { result ≡ (if inside self.now v then Some (code_in self.now v) else None) }
+        ensures bound { IfSome result (λ c. unsigned_abs c < 2 ^ MOST_BITS) }
+    {
+        if self.holds(v) {
+            Some(self.code_of(v))
+        } else {
+            None
+        }
+    }
+
+    // The code of a design coordinate that the range holds: its quantum is nearest.
+    pub fn code_of(&self, v: i32) -> i32
+        requires { inside self.now v ≡ true }
+        ensures value { result ≡ code_in self.now v }
+        ensures bound { unsigned_abs result < 2 ^ MOST_BITS }
+    {
+        let from = self.from_lower(v);
+        let span = self.span();
+        let top = u64::from(self.top());
+        nearest(from * top, span) as i32
+    }
+
+    // The place of a number in steps, if it is a code.
+    pub fn place(&self, code: i32) -> Option<i32>
+        ensures { result ≡ (if is_code self.now code then Some (place_in self.now code) else None) }
+    {
+        if self.is_code(code) {
+            Some(self.step_of(code))
+        } else {
+            None
+        }
+    }
+
+    // The place of a code, in steps.
+    pub fn step_of(&self, code: i32) -> i32
+        requires { IsCode self.now code }
+        ensures { result ≡ place_in self.now code }
+    {
+        self.nearest_step(code as u32)
+    }
+
+    // The upper end less the lower one, in units.
+    fn span(&self) -> u64
+        ensures value { result ≡ width_of self.now }
+        ensures bound { (0 < result) × (result ≤ 2 * FARTHEST_UNITS) }
+    {
+        u64::from(end_units(self.upper).abs_diff(end_units(self.lower)))
+    }
+
+    // A design coordinate less the lower end, in units.
+    fn from_lower(&self, v: i32) -> u64
+        requires { inside self.now v ≡ true }
+        ensures value { v -ℤ lowest self.now ≡ pos result }
+        ensures bound { result ≤ width_of self.now }
+    {
+        u64::from(v.abs_diff(self.lower_units()))
+    }
+
+    // The step nearest to what a code stands for.
+    fn nearest_step(&self, code: u32) -> i32
+        requires { code ≤ quanta self.now }
+        ensures { result ≡ place_in self.now (pos code) }
+    {
+        let lo = i64::from(end_units(self.lower));
+        let span = self.span() as i64;
+        let top = i64::from(self.top());
+        let n = top * lo + i64::from(code) * span;
+        floor_of(n + 8 * top, 16 * top) as i32
+    }
+}
+
+// Words are a range as a file has it.
+impl TryFrom<Words> for Range {
+    type Error = Why;
+
+    ghost try_from_gives = { Reads };
+
+    fn try_from(words: Words) -> Result<Range, Why> {
+        Range::new(
+            words.bits,
+            f32_from_bits_with_nan(words.lower),
+            f32_from_bits_with_nan(words.upper),
+        )
+    }
+}
+
+// How many values so many bits have.
+fn values_of(bits: u8) -> u32
+    requires { (1 ≤ bits) × (bits ≤ MOST_BITS) }
+    ensures value { result ≡ 2 ^ bits }
+    ensures bound { (2 ≤ result) × (result ≤ 2 ^ MOST_BITS) }
+{
+    1 << bits
+}
+
+// The whole number nearest to n / d, the upper one of two.
+fn nearest(n: u64, d: u64) -> u64
+    requires above { 0 < d }
+    requires small { (n < 2 ^ 60) × (d < 2 ^ 60) }
+    ensures { result ≡ (2 * n + d) / (2 * d) }
+{
+    (2 * n + d) / (2 * d)
+}
+
+// The floor of n / d, also below zero.
+fn floor_of(n: i64, d: i64) -> i64
+    requires { pos 0 <ℤ d }
+    ensures { result ≡ int_div_euclid n d }
+{
+    n.div_euclid(d)
 }
