@@ -9,14 +9,14 @@ use Rattle.refusal.specs.declared.Why.TheVariants.{Truncated, Letter, AxisCount,
 use Rattle.refusal.specs.declared.Refusal.{Refusal}
 use Rattle.predict.specs.Predictor.{PredictorMeaning}
 use Rattle.predict.specs.Residues.{values}
-use Rattle.pack.specs.Packing.{ReadingMeaning, Reading, numbers, refused}
+use Rattle.pack.specs.Packing.{ReadingMeaning}
 use Rattle.range.specs.Units.{good_end, units_of}
 use Rattle.range.specs.Scale.{Scale, scale_from}
 use Rattle.panel.specs.Panel.{Axis}
 use Rattle.panel.specs.Words.{word}
 use Rattle.panel.specs.Judging.{Rest, refuse, and_then, head_at, range_at, length_at, end_at, body_at, axis_at, axes_at, undone, more, scaled, all_codes}
 use Rattle.load.specs.Faults.{Due, header, range, size, body, end, nothing, faults, after, axes_due, bytes_of, refused_for, strays}
-use Rattle.load.proofs.Axis.{closed}
+use Rattle.load.proofs.Walk.{closed}
 use Rattle.load.proofs.Firsts.{judged_by, Rising}
 
 -- the tests of the header, in their order
@@ -131,14 +131,14 @@ module _ (m : PredictorMeaning) (q : ReadingMeaning) (axes room : ℕ) where
   body-codes n a at len s bs rs true e = axes-due n a (drop len bs, at + len)
   body-codes n a at len s bs rs false e = refl
 
-  body-read : (n a at len : ℕ) (s : Scale) (bs : List ℕ) (x : Reading) → ((e : Why) → x ≡ refused e → (e ≡ BodyLength) ⊎ (e ≡ SpareBits)) →
+  body-read : (n a at len : ℕ) (s : Scale) (bs : List ℕ) (x : Result (List ℤ) Why) → ((e : Why) → x ≡ Err e → (e ≡ BodyLength) ⊎ (e ≡ SpareBits)) →
       and_then (undone m q n at s x) (λ cs. axes_left n a (drop len bs, at + len))
       ≡ cond (refused_for BodyLength x) (refuse BodyLength at) (cond (refused_for SpareBits x) (refuse SpareBits at) (cond (strays m s x) (refuse Code at) (left (axes_due n a) (drop len bs, at + len))))
-  body-read n a at len s bs (numbers rs) why = body-codes n a at len s bs rs (all_codes s (values m rs)) refl
-  body-read n a at len s bs (refused e) why =
+  body-read n a at len s bs (Ok rs) why = body-codes n a at len s bs rs (all_codes s (values m rs)) refl
+  body-read n a at len s bs (Err e) why =
       ⊎_elim
-      (λ (h : e ≡ BodyLength). subst (λ (w : Why). refuse w at ≡ cond (refused_for BodyLength (refused w)) (refuse BodyLength at) (cond (refused_for SpareBits (refused w)) (refuse SpareBits at) (left (axes_due n a) (drop len bs, at + len)))) (sym h) refl)
-      (λ (h : e ≡ SpareBits). subst (λ (w : Why). refuse w at ≡ cond (refused_for BodyLength (refused w)) (refuse BodyLength at) (cond (refused_for SpareBits (refused w)) (refuse SpareBits at) (left (axes_due n a) (drop len bs, at + len)))) (sym h) refl)
+      (λ (h : e ≡ BodyLength). subst (λ (w : Why). refuse w at ≡ cond (refused_for BodyLength (Err w)) (refuse BodyLength at) (cond (refused_for SpareBits (Err w)) (refuse SpareBits at) (left (axes_due n a) (drop len bs, at + len)))) (sym h) refl)
+      (λ (h : e ≡ SpareBits). subst (λ (w : Why). refuse w at ≡ cond (refused_for BodyLength (Err w)) (refuse BodyLength at) (cond (refused_for SpareBits (Err w)) (refuse SpareBits at) (left (axes_due n a) (drop len bs, at + len)))) (sym h) refl)
       (why e refl)
 
   body-left : (n a len : ℕ) (s : Scale) (r : Rest) (short : Bool) →

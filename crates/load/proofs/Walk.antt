@@ -1,99 +1,133 @@
 -- One axis after another. Assumes nothing.
-use Rattle.std.proofs.Common.{◌≡◌, ℕ, suc, ◌+◌, ◌-◌, ◌<◌, ◌≤◌, Bool, true, false, cond, List, [], ℤ, is_ok, Ok, Err, Result, sym, refl, ap, ◌∙◌, subst, true≢false, arith}
-use Rattle.refusal.specs.declared.Why.TheVariants.{Code}
+use Rattle.std.proofs.Common.{◌≡◌, ℕ, suc, ◌+◌, Bool, true, false, cond, ltb, List, [], length, take, drop, ℤ, Ok, Err, Result, sym, refl, ap, ◌∙◌, subst, is_ok, true≢false, arith}
+use Rattle.std.proofs.lemmas.List.{drop-drop}
+use Rattle.refusal.specs.declared.Why.{Why}
+use Rattle.refusal.specs.declared.Why.TheVariants.{Truncated, Code}
 use Rattle.refusal.specs.declared.Refusal.{Refusal}
 use Rattle.kinds.specs.Kind.{KindMeaning}
 use Rattle.predict.specs.Predictor.{PredictorMeaning}
 use Rattle.predict.specs.Residues.{values}
-use Rattle.pack.specs.Packing.{ReadingMeaning, Reading, numbers, refused, Accepted, listed}
+use Rattle.pack.specs.Packing.{ReadingMeaning}
 use Rattle.range.specs.Scale.{Scale}
 use Rattle.panel.specs.Panel.{Axis}
-use Rattle.panel.specs.Judging.{refuse, and_then, Rest, axis_at, axes_at, undone, more, all_codes}
+use Rattle.panel.specs.Judging.{refuse, and_then, Rest, range_at, length_at, body_at, axis_at, axes_at, undone, coded, more, all_codes}
+use Rattle.load.specs.declared.axis.Axis as read
+use Rattle.load.specs.Pieces.{past}
+use Rattle.load.specs.Opened.{opened, body_taken, bytes_taken, axis_read}
 use Rattle.load.specs.Steps.{past_of}
 use Rattle.load.specs.Filling.{fill_on, fill_from, fill_by}
-use Rattle.load.proofs.Undo.{void_of}
-use Rattle.load.proofs.Axis.{closed, Opens, Shuts}
+
+-- an axis with its codes, and what follows
+abbrev pub closed : Scale → Rest → List ℤ → Result (Axis × Rest) Refusal
+closed s next cs = Ok (record { scale = s; codes = cs }, next)
 
 module _ (m : PredictorMeaning) (q : ReadingMeaning) (n : ℕ) where
-  first : (j : ℕ) (p : Rest) → axes_at m q n (suc j) p ≡ and_then (axis_at m q n p) (λ x. more m q n x.0 (axes_at m q n j x.1))
+  pub no_axes : (k : ℕ) (r : Rest) → k ≡ 0 → axes_at m q n k r ≡ Ok ([], r)
   unfolding axes_at
-  first j p = refl
+  no_axes k r e = ap (λ i. axes_at m q n i r) e
 
-  past_more : (x : Axis) (r : Result (List Axis × Rest) Refusal) → past_of (more m q n x r) ≡ past_of r
+module _ (Q : Type 0) (m : PredictorMeaning) (q : ReadingMeaning) (n : ℕ) where
+  -- an axis by its codes, if each is one of the scale
+  abbrev pub by_codes : read.Axis Q × Rest → Result (Axis × Rest) Refusal
+  by_codes x = and_then (coded x.0.offset x.0.range (values m x.0.body)) (closed x.0.range x.1)
+
+  reading : (s : Scale) (at : ℕ) (next : Rest) (r : Result (List ℤ) Why) →
+      and_then (undone m q n at s r) (closed s next) ≡ and_then (axis_read s at next r) by_codes
+  reading s at next (Ok rs) = refl
+  reading s at next (Err e) = refl
+
+  bytes : (s : Scale) (at len : ℕ) (bs : List ℕ) (next : Rest) (short : Bool) →
+      and_then (cond short (refuse Truncated at) (undone m q n at s (q.reads n (take len bs)))) (closed s next)
+      ≡ and_then (and_then {X = List ℕ × ℕ × Rest} (cond short (refuse Truncated at) (Ok (take len bs, at, next))) (λ b. axis_read s b.1 b.2 (q.reads n b.0))) by_codes
+  bytes s at len bs next true = refl
+  bytes s at len bs next false = reading s at next (q.reads n (take len bs))
+
+  sizes : (s : Scale) (r : Rest) (u : Result ℕ Refusal) →
+      and_then u (λ len. and_then (body_at m q n (r.1 + 15) s len (drop 15 r.0)) (closed s (drop (15 + len) r.0, r.1 + (15 + len))))
+      ≡ and_then (and_then (and_then u (bytes_taken (past 5 (past 10 r)))) (λ b. axis_read s b.1 b.2 (q.reads n b.0))) by_codes
+  unfolding body_at
+  sizes s r (Ok len) =
+      let place : r.1 + 15 ≡ r.1 + 10 + 5 = omega arith in
+      let rest : drop 15 r.0 ≡ drop 5 (drop 10 r.0) = sym (drop-drop 5 10 r.0) in
+      let far : r.1 + (15 + len) ≡ r.1 + 10 + 5 + len = omega arith in
+      let beyond : drop (15 + len) r.0 ≡ drop len (drop 5 (drop 10 r.0)) = sym (ap (drop len) (sym rest) ∙ drop-drop len 15 r.0) in
+      rw (place, rest, far, beyond) (bytes s (r.1 + 10 + 5) len (drop 5 (drop 10 r.0)) (past len (past 5 (past 10 r))) (ltb (length (drop 5 (drop 10 r.0))) len))
+  sizes s r (Err e) = refl
+
+  ranges : (r : Rest) (u : Result Scale Refusal) →
+      and_then u (λ s. and_then (length_at (r.1 + 10) (drop 10 r.0)) (λ len. and_then (body_at m q n (r.1 + 15) s len (drop 15 r.0)) (closed s (drop (15 + len) r.0, r.1 + (15 + len)))))
+      ≡ and_then (and_then (and_then {Y = Scale × Rest} u (λ s. Ok (s, past 10 r))) (λ s. and_then (body_taken s.1) (λ b. axis_read s.0 b.1 b.2 (q.reads n b.0)))) by_codes
+  ranges r (Ok s) = sizes s r (length_at (r.1 + 10) (drop 10 r.0))
+  ranges r (Err e) = refl
+
+  -- an axis is what is opened, by its codes
+  pub axis_opened : (r : Rest) → axis_at m q n r ≡ and_then (opened q n r) by_codes
+  unfolding axis_at opened
+  axis_opened r = ranges r (range_at r.1 r.0)
+
+  abbrev pub with_more : ℕ → Axis × Rest → Result (List Axis × Rest) Refusal
+  with_more j x = more m q n x.0 (axes_at m q n j x.1)
+
+  pub axes_opened : (k j : ℕ) (r : Rest) → k ≡ suc j → axes_at m q n k r ≡ and_then (and_then (opened q n r) by_codes) (with_more j)
+  unfolding axes_at
+  axes_opened k j r e = ap (λ i. axes_at m q n i r) e ∙ ap (λ u. and_then u (with_more j)) (axis_opened r)
+
+  past_more : (x : Axis) (u : Result (List Axis × Rest) Refusal) → past_of (more m q n x u) ≡ past_of u
   past_more x (Ok y) = refl
   past_more x (Err e) = refl
 
-  pub shuts : (j : ℕ) (p : Rest) (e : Refusal) → Shuts p e → past_of (axes_at m q n (suc j) p) ≡ Err e
-  shuts j p e h = ap past_of (first j p ∙ ap (λ r. and_then r (λ (x : Axis × Rest). more m q n x.0 (axes_at m q n j x.1))) (h m q n))
+  -- where a walk over the axes goes on, from an axis that is read
+  abbrev pub goes_on : ℕ → read.Axis Q × Rest → Result Rest Refusal
+  goes_on j x = cond (all_codes x.0.range (values m x.0.body)) (past_of (axes_at m q n j x.1)) (refuse Code x.0.offset)
 
-  module _ (j : ℕ) (p : Rest) (s : Scale) (body : List ℕ) (at : ℕ) (next : Rest) (o : Opens p s body at next) where
-    opened : axes_at m q n (suc j) p ≡ and_then (and_then (undone m q n at s (q.reads n body)) (closed s next)) (λ x. more m q n x.0 (axes_at m q n j x.1))
-    opened = first j p ∙ ap (λ r. and_then r (λ (x : Axis × Rest). more m q n x.0 (axes_at m q n j x.1))) (o m q n)
+  by_sound : (j : ℕ) (s : Scale) (at : ℕ) (cs : List ℤ) (next : Rest) (sound : Bool) →
+      past_of (and_then (and_then (cond sound (Ok cs) (refuse Code at)) (closed s next)) (with_more j)) ≡ cond sound (past_of (axes_at m q n j next)) (refuse Code at)
+  by_sound j s at cs next true = past_more (record { scale = s; codes = cs }) (axes_at m q n j next)
+  by_sound j s at cs next false = refl
 
-    go_on : (u : Result (List ℤ) Refusal) → Ok tt ≡ void_of u → past_of (and_then (and_then u (closed s next)) (λ x. more m q n x.0 (axes_at m q n j x.1))) ≡ past_of (axes_at m q n j next)
-    go_on (Ok cs) h = past_more (record { scale = s; codes = cs }) (axes_at m q n j next)
-    go_on (Err e) h = let z : ◌≡◌ {A = ℕ} 0 1 = cc in absurd (omega arith)
+  by_opened : (j : ℕ) (u : Result (read.Axis Q × Rest) Refusal) → past_of (and_then (and_then u by_codes) (with_more j)) ≡ and_then u (goes_on j)
+  by_opened j (Ok x) = by_sound j x.0.range x.0.offset (values m x.0.body) x.1 (all_codes x.0.range (values m x.0.body))
+  by_opened j (Err e) = refl
 
-    give-up : (u : Result (List ℤ) Refusal) (e : Refusal) → Err e ≡ void_of u → past_of (and_then (and_then u (closed s next)) (λ x. more m q n x.0 (axes_at m q n j x.1))) ≡ Err e
-    give-up (Ok cs) e h = let z : ◌≡◌ {A = ℕ} 0 1 = cc in absurd (omega arith)
-    give-up (Err d) e h = let w : d ≡ e = cc in ap Err w
+  pub walks : (k j : ℕ) (r : Rest) → k ≡ suc j → past_of (axes_at m q n k r) ≡ and_then (opened q n r) (goes_on j)
+  walks k j r e = ap past_of (axes_opened k j r e) ∙ by_opened j (opened q n r)
 
-    pub goes : Ok tt ≡ void_of (undone m q n at s (q.reads n body)) → past_of (axes_at m q n (suc j) p) ≡ past_of (axes_at m q n j next)
-    goes h = ap past_of opened ∙ go_on _ h
+  module _ (k j : ℕ) (r : Rest) (one : k ≡ suc j) where
+    pub walk_refused : (e : Refusal) → Err e ≡ opened {Q = Q} q n r → Err e ≡ past_of (axes_at m q n k r)
+    walk_refused e h = sym (walks k j r one ∙ ap (λ u. and_then u (goes_on j)) (sym h))
 
-    pub stops : (e : Refusal) → Err e ≡ void_of (undone m q n at s (q.reads n body)) → past_of (axes_at m q n (suc j) p) ≡ Err e
-    stops e h = ap past_of opened ∙ give-up _ e h
+    module _ (x : read.Axis Q) (next : Rest) (h : Ok (x, next) ≡ opened q n r) where
+      pub walk_on : all_codes x.range (values m x.body) ≡ true → past_of (axes_at m q n j next) ≡ past_of (axes_at m q n k r)
+      walk_on sound = sym (walks k j r one ∙ ap (λ u. and_then u (goes_on j)) (sym h) ∙ simp sound)
 
-    module _ {P : Type 0} (k : KindMeaning P) (a : ℕ) (ps : List P) where
-      pub record Placing (r : Reading) (whole : Result (List Axis × Rest) Refusal) : Type 0 where
-        pub accepted : Accepted r
-        pub inside : all_codes s (values m (listed r)) ≡ true
-        pub left : is_ok (axes_at m q n j next) ≡ true
-        pub same : fill_by k a whole ps ≡ fill_by k (a + 1) (axes_at m q n j next) (fill_on k a s (values m (listed r)) ps)
+      pub walk_astray : all_codes x.range (values m x.body) ≡ false → refuse Code x.offset ≡ past_of (axes_at m q n k r)
+      walk_astray stray = sym (walks k j r one ∙ ap (λ u. and_then u (goes_on j)) (sym h) ∙ simp stray)
 
-      last : (rs : List ℤ) (cs : List ℤ) (y : Result (List Axis × Rest) Refusal) → is_ok (more m q n (record { scale = s; codes = cs }) y) ≡ true →
-          (is_ok y ≡ true) × (fill_by k a (more m q n (record { scale = s; codes = cs }) y) ps ≡ fill_by k (a + 1) y (fill_on k a s cs ps))
-      unfolding fill_from
-      last rs cs (Ok y) h = (refl, refl)
-      last rs cs (Err e) h = absurd (true≢false (sym h))
+    module _ (ok : is_ok (axes_at m q n k r) ≡ true) where
+      opens : (u : Result (read.Axis Q × Rest) Refusal) → u ≡ opened q n r → axes_at m q n k r ≡ and_then (and_then u by_codes) (with_more j)
+      opens u h = axes_opened k j r one ∙ ap (λ v. and_then (and_then v by_codes) (with_more j)) (sym h)
 
-      by_codes : (rs : List ℤ) (b : Bool) → all_codes s (values m rs) ≡ b →
-          is_ok (and_then (and_then (cond b (Ok (values m rs)) (refuse Code at)) (closed s next)) (λ x. more m q n x.0 (axes_at m q n j x.1))) ≡ true →
-          Placing (numbers rs) (and_then (and_then (cond b (Ok (values m rs)) (refuse Code at)) (closed s next)) (λ x. more m q n x.0 (axes_at m q n j x.1)))
-      by_codes rs true e h =
-          let l = last rs (values m rs) (axes_at m q n j next) h in
-          record { accepted = tt; inside = e; left = l.0; same = l.1 }
-      by_codes rs false e h = absurd (true≢false (sym h))
+      pub never_refused : (e : Refusal) → Err e ≡ opened {Q = Q} q n r → ⊥
+      never_refused e h = true≢false (sym ok ∙ ap is_ok (opens (Err e) h))
 
-      by-reading : (r : Reading) → is_ok (and_then (and_then (undone m q n at s r) (closed s next)) (λ x. more m q n x.0 (axes_at m q n j x.1))) ≡ true →
-          Placing r (and_then (and_then (undone m q n at s r) (closed s next)) (λ x. more m q n x.0 (axes_at m q n j x.1)))
-      by-reading (numbers rs) h = by_codes rs (all_codes s (values m rs)) refl h
-      by-reading (refused e) h = absurd (true≢false (sym h))
+      module _ {P : Type 0} (kind : KindMeaning P) (a : ℕ) (ps : List P) (x : read.Axis Q) (next : Rest) (h : Ok (x, next) ≡ opened q n r) where
+        -- one axis is filled, and the others are left
+        pub record Filling (whole : Result (List Axis × Rest) Refusal) : Type 0 where
+          pub coded : all_codes x.range (values m x.body) ≡ true
+          pub accepted : is_ok (axes_at m q n j next) ≡ true
+          pub filled : fill_by kind a whole ps ≡ fill_by kind (a + 1) (axes_at m q n j next) (fill_on kind a x.range (values m x.body) ps)
 
-      pub placing : is_ok (axes_at m q n (suc j) p) ≡ true → Placing (q.reads n body) (axes_at m q n (suc j) p)
-      placing h = subst (Placing (q.reads n body)) (sym opened) (by-reading (q.reads n body) (sym (ap is_ok opened) ∙ h))
+        last : all_codes x.range (values m x.body) ≡ true → (y : Result (List Axis × Rest) Refusal) → axes_at m q n j next ≡ y →
+            is_ok (more m q n (record { scale = x.range; codes = values m x.body }) y) ≡ true → Filling (more m q n (record { scale = x.range; codes = values m x.body }) y)
+        unfolding fill_from
+        last sound (Ok y) e o = record { coded = sound; accepted = ap is_ok e; filled = sym (ap (λ u. fill_by kind (a + 1) u (fill_on kind a x.range (values m x.body) ps)) e) }
+        last sound (Err d) e o = absurd (true≢false (sym o))
 
--- axis after axis, by the count of those left
-module _ (m : PredictorMeaning) (q : ReadingMeaning) (n axes axis : ℕ) (p : Rest) where
-  pub one_less : axis < axes → axes - axis ≡ suc (axes - (axis + 1))
-  one_less lt = omega arith
+        by_test : (b : Bool) → all_codes x.range (values m x.body) ≡ b →
+            is_ok (and_then (and_then (cond b (Ok (values m x.body)) (refuse Code x.offset)) (closed x.range next)) (with_more j)) ≡ true →
+            Filling (and_then (and_then (cond b (Ok (values m x.body)) (refuse Code x.offset)) (closed x.range next)) (with_more j))
+        by_test true e o = last e (axes_at m q n j next) refl o
+        by_test false e o = absurd (true≢false (sym o))
 
-  pub left-on : (whole r : Result Rest Refusal) → axis < axes → whole ≡ past_of (axes_at m q n (axes - axis) p) → past_of (axes_at m q n (suc (axes - (axis + 1))) p) ≡ r → whole ≡ r
-  left-on whole r lt inv h = inv ∙ ap (λ (j : ℕ). past_of (axes_at m q n j p)) (one_less lt) ∙ h
-
-  none : axes ≤ axis → axes_at m q n (axes - axis) p ≡ Ok ([], p)
-  unfolding axes_at
-  none done = let e : axes - axis ≡ 0 = omega arith in ap (λ (j : ℕ). axes_at m q n j p) e
-
-  pub left-none : (whole : Result Rest Refusal) → axes ≤ axis → whole ≡ past_of (axes_at m q n (axes - axis) p) → whole ≡ Ok p
-  left-none whole done inv = inv ∙ ap past_of (none done)
-
-  pub over_none : {P : Type 0} (k : KindMeaning P) (a : ℕ) (ps : List P) → axes ≤ axis → fill_by k a (axes_at m q n (axes - axis) p) ps ≡ ps
-  unfolding fill_from
-  over_none k a ps done = ap (λ (r : Result (List Axis × Rest) Refusal). fill_by k a r ps) (none done)
-
-  pub not-shut : (e : Refusal) → axis < axes → is_ok (axes_at m q n (axes - axis) p) ≡ true → Shuts p e → ⊥
-  not-shut e lt ok h =
-      let shut : axes_at m q n (axes - axis) p ≡ Err e = ap (λ (j : ℕ). axes_at m q n j p) (one_less lt) ∙ first m q n (axes - (axis + 1)) p
-      ∙ ap (λ r. and_then r (λ (x : Axis × Rest). more m q n x.0 (axes_at m q n (axes - (axis + 1)) x.1))) (h m q n) in
-      true≢false (sym ok ∙ ap is_ok shut)
+        pub filling : Filling (axes_at m q n k r)
+        filling = subst Filling (sym (opens (Ok (x, next)) h)) (by_test (all_codes x.range (values m x.body)) refl (sym (ap is_ok (opens (Ok (x, next)) h)) ∙ ok))

@@ -1,5 +1,5 @@
 -- The faults that a piece of a file can have, how far the reader of a file comes, and that the first fault is told.
-use Rattle.std.specs.Prelude.{◌≡◌, ℕ, zero, suc, ◌+◌, ◌≤◌, Bool, true, false, not, ◌&&◌, ◌||◌, ◌⊎◌, List, [], ◌∷◌, length, take, drop, Ok, Err, Result, ◌==◌, from_bits, int_lt, nat_le, nat_lt, slice_index}
+use Rattle.std.specs.Prelude.{◌≡◌, ℕ, zero, suc, ◌+◌, ◌≤◌, Bool, true, false, not, ◌&&◌, ◌||◌, ◌⊎◌, List, [], ◌∷◌, length, take, drop, Ok, Err, Result, ◌==◌, from_bits, int_lt, nat_le, nat_lt, slice_index, ℤ}
 use Rattle.std.specs.Float.{binary32}
 use Rattle.std.specs.List.{AllByRecursion}
 use Rattle.refusal.specs.Numbers.{number_of}
@@ -8,7 +8,7 @@ use Rattle.refusal.specs.declared.Why.TheVariants.{Truncated, Letter, AxisCount,
 use Rattle.refusal.specs.declared.Refusal.{Refusal}
 use Rattle.predict.specs.Predictor.{PredictorMeaning}
 use Rattle.predict.specs.Residues.{values}
-use Rattle.pack.specs.Packing.{ReadingMeaning, Reading, numbers, refused}
+use Rattle.pack.specs.Packing.{ReadingMeaning}
 use Rattle.range.specs.Units.{good_end, units_of}
 use Rattle.range.specs.Scale.{Scale, scale_from}
 use Rattle.panel.specs.Words.{word}
@@ -38,14 +38,14 @@ abbrev pub piece_faults : ℕ → ℕ → ℕ → List ℕ → List Fault → Li
 piece_faults n letter at bs others = fault Truncated at (nat_lt (length bs) n) ∷ fault Letter at (not (slice_index bs 0 == letter)) ∷ others
 
 -- the packing refuses a body for this reason
-abbrev pub refused_for : Why → Reading → Bool
-refused_for w (numbers rs) = false
-refused_for w (refused e) = number_of e == number_of w
+abbrev pub refused_for : Why → Result (List ℤ) Why → Bool
+refused_for w (Ok rs) = false
+refused_for w (Err e) = number_of e == number_of w
 
 -- a code of an accepted body lies outside the scale
-abbrev pub strays : PredictorMeaning → Scale → Reading → Bool
-strays m s (numbers rs) = not (all_codes s (values m rs))
-strays m s (refused e) = false
+abbrev pub strays : PredictorMeaning → Scale → Result (List ℤ) Why → Bool
+strays m s (Ok rs) = not (all_codes s (values m rs))
+strays m s (Err e) = false
 
 -- some fault of these is found, for this reason and told at this place
 abbrev pub Has : List Fault → Why → ℕ → Type 0

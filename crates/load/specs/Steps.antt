@@ -1,47 +1,30 @@
 -- What the steps of judging a file answer.
-use Rattle.std.specs.Prelude.{◌≡◌, ℕ, ◌+◌, cond, List, length, take, drop, Ok, Err, Result, nat_lt}
-use Rattle.std.specs.Borrow.{Bor}
-use Rattle.refusal.specs.declared.Why.TheVariants.{Truncated}
+use Rattle.std.specs.Prelude.{ℕ, List, Ok, Err, Result, drop}
 use Rattle.refusal.specs.declared.Refusal.{Refusal}
-use Rattle.range.specs.Scale.{Scale, scale_of}
-use Rattle.range.specs.declared.range.Range.{Range}
 use Rattle.panel.specs.Panel.{Panel}
-use Rattle.panel.specs.Judging.{refuse, and_then, length_at, Rest}
+use Rattle.predict.specs.Predictor.{PredictorMeaning}
+use Rattle.pack.specs.Packing.{ReadingMeaning}
+use Rattle.panel.specs.Judging.{Rest, and_then, head_at, axes_at, end_at}
 
--- a range by its scale
-abbrev pub by_scale : Result Range Refusal → Result Scale Refusal
-by_scale (Ok g) = Ok (scale_of g)
-by_scale (Err e) = Err e
-
--- a body by its bytes and their offset
-abbrev pub by_bytes : Result (Bor (List ℕ) × ℕ) Refusal → Result Rest Refusal
-by_bytes (Ok x) = Ok (x.0.now, x.1)
-by_bytes (Err e) = Err e
-
--- a body of so many bytes, if the file still has them
-abbrev pub bytes_at : ℕ → List ℕ → ℕ → Result Rest Refusal
-bytes_at at bs len = cond (nat_lt (length bs) len) (refuse Truncated at) (Ok (take len bs, at))
-
--- V at a place, and the body after it
-abbrev pub announced_at : ℕ → List ℕ → Result Rest Refusal
-announced_at at bs = and_then (length_at at bs) (bytes_at (at + 5) (drop 5 bs))
+-- N: the vertex count, and what follows
+abbrev pub head_taken : ℕ → ℕ → ℕ → ℕ → List ℕ → Result (ℕ × Rest) Refusal
+head_taken axes predictor packing room bs = and_then (head_at axes predictor packing room bs) (λ n. Ok (n, (drop 8 bs, 8)))
 
 -- what follows the axes
 abbrev pub past_of : {X : Type 0} → Result (X × Rest) Refusal → Result Rest Refusal
 past_of (Ok x) = Ok x.1
 past_of (Err e) = Err e
 
--- what is left of a file from a place on
-abbrev pub from : List ℕ → Result ℕ Refusal → Result Rest Refusal
-from file (Ok at) = Ok (drop at file, at)
-from file (Err e) = Err e
-
 -- how many vertices a file has
 abbrev pub count_of : Result Panel Refusal → Result ℕ Refusal
 count_of (Ok x) = Ok x.count
 count_of (Err e) = Err e
 
--- what judging a whole file answers: how many vertices it has, or why it is refused
-abbrev pub Answers : Result Panel Refusal → Result ℕ Refusal → Type 0
-Answers judged (Ok n) = count_of judged ≡ Ok n
-Answers judged (Err e) = judged ≡ Err e
+-- so many axes, E, and nothing after it
+abbrev pub behind_head : PredictorMeaning → ReadingMeaning → ℕ → ℕ → Rest → Result (Unit {0}) Refusal
+behind_head m q n axes r = and_then (past_of (axes_at m q n axes r)) (λ e. end_at e.1 e.0)
+
+-- how many vertices a whole file has, piece by piece
+abbrev pub count_taken : PredictorMeaning → ReadingMeaning → ℕ → ℕ → List ℕ → Result ℕ Refusal
+count_taken m q axes room bs =
+    and_then (head_taken axes m.number q.number room bs) (λ h. and_then (behind_head m q h.0 axes h.1) (λ _. Ok h.0))

@@ -1,12 +1,12 @@
 -- The axes of a panel one after another.
-use Rattle.std.proofs.Common.{◌≡◌, ℕ, ◌+◌, ◌<◌, ◌≤◌, true, ◌&&◌, List, [], ◌∷◌, ◌++◌, length, get_or, take, drop, ℤ, sym, refl, ap, ◌∙◌, ap₂, append_assoc, arith, length-append}
+use Rattle.std.proofs.Common.{◌≡◌, ℕ, ◌+◌, ◌<◌, ◌≤◌, true, List, [], ◌∷◌, ◌++◌, length, get_or, drop, ℤ, sym, refl, ap, ◌∙◌, ap₂, append_assoc, arith, length-append}
 use Rattle.std.specs.List.{flat_map}
-use Rattle.std.proofs.lemmas.List.{drop_more, drop_all, get_or-take, length-take-le}
+use Rattle.std.proofs.lemmas.Bool.{and_parts}
+use Rattle.std.proofs.lemmas.List.{drop_more, drop_all}
 use Rattle.kinds.specs.Kind.{KindMeaning}
 use Rattle.predict.specs.Predictor.{PredictorMeaning}
 use Rattle.pack.specs.Packing.{PackingMeaning}
-use Rattle.range.specs.Scale.{scale_of}
-use Rattle.range.specs.declared.range.Range.{Range}
+use Rattle.range.specs.Scale.{Scale}
 use Rattle.panel.specs.Bytes.{overwritten}
 use Rattle.predict.specs.Residues.{residues}
 use Rattle.panel.proofs.Overwriting.{over-more, length_over}
@@ -46,42 +46,32 @@ module _ (m : PredictorMeaning) (q : PackingMeaning) where
       ∙ over-more (overwritten f0 at rp) (at + 10) lp (omega arith) (at + 15) body e15
       ∙ over-more f0 at rp (omega arith) (at + 10) (lp ++ body) refl
 
-module _ {P : Type 0} (k : KindMeaning P) (ps : List P) (gs : List Range) (i : ℕ) where
-  -- past the last axis
-  module _ (done : k.axes ≤ i) where
-    none : length gs ≡ 3 → drop i (take k.axes gs) ≡ []
-    none three = drop_all i (take k.axes gs) (omega (arith, length-take-le k.axes gs (omega (arith, k.few_axes))))
-
-    pub inside_past : length gs ≡ 3 → inside_from k ps i (drop i (take k.axes gs)) ≡ true
-    unfolding inside_from
-    inside_past three = ap (inside_from k ps i) (none three)
-
-    pub axes-past : length gs ≡ 3 → axes_from k ps i (drop i (take k.axes gs)) ≡ []
-    unfolding axes_from
-    axes-past three = ap (axes_from k ps i) (none three)
+module _ {P : Type 0} (k : KindMeaning P) (ps : List P) (gs : List Scale) (i : ℕ) where
+  -- past the last range
+  pub axes-past : length gs ≤ i → axes_from k ps i (drop i gs) ≡ []
+  unfolding axes_from
+  axes-past done = ap (axes_from k ps i) (drop_all i gs done)
 
   -- the range at i
-  module _ (d : Range) (lt : i < k.axes) (three : length gs ≡ 3) where
-    here : drop i (take k.axes gs) ≡ get_or gs i d ∷ drop (i + 1) (take k.axes gs)
-    here =
-        let l : i < length (take k.axes gs) = omega (arith, length-take-le k.axes gs (omega (arith, k.few_axes))) in
-        drop_more (take k.axes gs) i d l ∙ ap (λ (y : Range). y ∷ drop (i + 1) (take k.axes gs)) (get_or-take k.axes gs i d lt)
+  module _ (g : Scale) (lt : i < length gs) (is : g ≡ get_or gs i g) where
+    here : drop i gs ≡ g ∷ drop (i + 1) gs
+    here = drop_more gs i g lt ∙ ap (λ (y : Scale). y ∷ drop (i + 1) gs) (sym is)
 
-    pub inside-next : inside_from k ps i (drop i (take k.axes gs)) ≡ (inside_on k i (scale_of (get_or gs i d)) ps && inside_from k ps (i + 1) (drop (i + 1) (take k.axes gs)))
+    pub inside-next : inside_from k ps i (drop i gs) ≡ true → (inside_on k i g ps ≡ true) × (inside_from k ps (i + 1) (drop (i + 1) gs) ≡ true)
     unfolding inside_from
-    inside-next = ap (inside_from k ps i) here
+    inside-next all = and_parts _ _ (sym (ap (inside_from k ps i) here) ∙ all)
 
-    pub axes-next : axes_from k ps i (drop i (take k.axes gs)) ≡ axis_on k ps i (get_or gs i d) ∷ axes_from k ps (i + 1) (drop (i + 1) (take k.axes gs))
+    axes-next : axes_from k ps i (drop i gs) ≡ axis_on k ps i g ∷ axes_from k ps (i + 1) (drop (i + 1) gs)
     unfolding axes_from
     axes-next = ap (axes_from k ps i) here
 
     pub rest-next : (m : PredictorMeaning) (q : PackingMeaning) →
-        rest_bytes m q (axes_from k ps i (drop i (take k.axes gs))) ≡ axis_bytes m q (axis_on k ps i (get_or gs i d)) ++ rest_bytes m q (axes_from k ps (i + 1) (drop (i + 1) (take k.axes gs)))
+        rest_bytes m q (axes_from k ps i (drop i gs)) ≡ axis_bytes m q (axis_on k ps i g) ++ rest_bytes m q (axes_from k ps (i + 1) (drop (i + 1) gs))
     rest-next m q =
         ap (rest_bytes m q) axes-next
-        ∙ append_assoc (axis_bytes m q (axis_on k ps i (get_or gs i d))) (flat_map (axis_bytes m q) (axes_from k ps (i + 1) (drop (i + 1) (take k.axes gs)))) end_piece
+        ∙ append_assoc (axis_bytes m q (axis_on k ps i g)) (flat_map (axis_bytes m q) (axes_from k ps (i + 1) (drop (i + 1) gs))) end_piece
 
     pub length-next : (m : PredictorMeaning) (q : PackingMeaning) →
-        length (rest_bytes m q (axes_from k ps i (drop i (take k.axes gs))))
-        ≡ length (axis_bytes m q (axis_on k ps i (get_or gs i d))) + length (rest_bytes m q (axes_from k ps (i + 1) (drop (i + 1) (take k.axes gs))))
-    length-next m q = ap length (rest-next m q) ∙ length-append (axis_bytes m q (axis_on k ps i (get_or gs i d))) _
+        length (rest_bytes m q (axes_from k ps i (drop i gs)))
+        ≡ length (axis_bytes m q (axis_on k ps i g)) + length (rest_bytes m q (axes_from k ps (i + 1) (drop (i + 1) gs)))
+    length-next m q = ap length (rest-next m q) ∙ length-append (axis_bytes m q (axis_on k ps i g)) _

@@ -1,28 +1,21 @@
 -- Each piece that is written is read as what was written.
-use Rattle.std.proofs.Common.{◌≡◌, ℕ, ◌+◌, ◌*◌, ◌/◌, ◌%◌, ◌^◌, ◌<◌, ◌≤◌, true, List, ◌++◌, length, take, ℤ, None, Ok, sym, refl, ap, ◌∙◌, ap₂, arith, length-append}
+use Rattle.std.proofs.Common.{◌≡◌, ℕ, ◌+◌, ◌*◌, ◌^◌, ◌<◌, ◌≤◌, true, List, ◌++◌, length, take, ℤ, None, Ok, sym, refl, ap, ◌∙◌, ap₂, arith, length-append}
 use lib.Ieee.{Float, binary32, of_bits, to_bits}
 use Rattle.std.specs.List.{AllByRecursion}
-use Rattle.std.proofs.lemmas.Nat.{shr-shr}
+use Rattle.std.proofs.lemmas.Nat.{from_le_bytes-to_le_bytes_4}
 use Rattle.std.proofs.lemmas.List.{take_at}
 use Rattle.std.proofs.lemmas.Bool.{le-ltb, eq-eqb}
 use Rattle.predict.specs.Wrap.{Word}
 use Rattle.predict.specs.Predictor.{PredictorMeaning}
 use Rattle.predict.specs.Residues.{start, residues, values}
 use Rattle.predict.proofs.Undone.{start-words, values-back, residues-words, length-residues}
-use Rattle.pack.specs.Packing.{PackingMeaning, Counted, numbers}
+use Rattle.kinds.specs.Count.{IsVertexCount}
+use Rattle.pack.specs.Packing.{PackingMeaning}
 use Rattle.range.specs.Judged.{refusal}
 use Rattle.range.specs.Scale.{Scale, scale_from}
 use Rattle.panel.specs.Words.{word}
 use Rattle.panel.specs.Written.{head_piece, range_piece, length_piece}
 use Rattle.panel.specs.Judging.{head_at, range_at, length_at, body_at, all_codes, scaled, scaled_by}
-
--- four bytes are read as the number that they write
-pub four : (n : ℕ) → n < 2 ^ 32 → n % 256 + n / 256 % 256 * 256 + n / 65536 % 256 * 65536 + n / 16777216 % 256 * 16777216 ≡ n
-four n h =
-    let a : n / 256 / 256 ≡ n / 65536 = shr-shr n 8 8 in
-    let b : n / 65536 / 256 ≡ n / 16777216 = shr-shr n 16 8 in
-    let c : n / 16777216 / 256 ≡ n / 4294967296 = shr-shr n 24 8 in
-    omega arith
 
 -- a scale as a range has it: not refused, stored as it is, and its ends in a word each
 pub record Sound (s : Scale) : Type 0 where
@@ -33,26 +26,26 @@ pub record Sound (s : Scale) : Type 0 where
   pub low_word : to_bits binary32 s.lower < 2 ^ 32
   pub high_word : to_bits binary32 s.upper < 2 ^ 32
 
-pub head-back : (a p q n room : ℕ) (rest : List ℕ) → Counted n → n ≤ room → head_at a p q room (head_piece a p q n ++ rest) ≡ Ok n
+pub head-back : (a p q n room : ℕ) (rest : List ℕ) → IsVertexCount n → n ≤ room → head_at a p q room (head_piece a p q n ++ rest) ≡ Ok n
 head-back a p q n room rest counted enough =
     let bs = head_piece a p q n ++ rest in
-    let w : word bs 4 ≡ n = four n (omega arith) in
+    let w : word bs 4 ≡ n = from_le_bytes-to_le_bytes_4 n (omega arith) in
     simp (le-ltb (length bs) 8 (omega arith), eq-eqb a a refl, eq-eqb p p refl, eq-eqb q q refl, w, le-ltb n 2 counted.0, le-ltb 4096 n counted.1, le-ltb room n enough)
 
 pub range_back : (s : Scale) (at : ℕ) (rest : List ℕ) → Sound s → range_at at (range_piece s ++ rest) ≡ Ok s
 range_back s at rest sound =
     let bs = range_piece s ++ rest in
-    let l : of_bits binary32 (word bs 2) ≡ s.lower = ap (of_bits binary32) (four _ sound.low_word) ∙ sound.low in
-    let u : of_bits binary32 (word bs 6) ≡ s.upper = ap (of_bits binary32) (four _ sound.high_word) ∙ sound.high in
+    let l : of_bits binary32 (word bs 2) ≡ s.lower = ap (of_bits binary32) (from_le_bytes-to_le_bytes_4 _ sound.low_word) ∙ sound.low in
+    let u : of_bits binary32 (word bs 6) ≡ s.upper = ap (of_bits binary32) (from_le_bytes-to_le_bytes_4 _ sound.high_word) ∙ sound.high in
     let made : scaled_by at s.bits s.lower s.upper ≡ Ok s = ap (scaled at s.bits s.lower s.upper) sound.good ∙ ap Ok sound.stays in
     simp (le-ltb (length bs) 10 (omega arith)) (ap₂ (λ (x y : Float). scaled_by at s.bits x y) l u ∙ made)
 
 pub length_back : (n at : ℕ) (rest : List ℕ) → n < 2 ^ 32 → length_at at (length_piece n ++ rest) ≡ Ok n
 length_back n at rest small =
     let bs = length_piece n ++ rest in
-    simp (le-ltb (length bs) 5 (omega arith)) (ap Ok (four n small))
+    simp (le-ltb (length bs) 5 (omega arith)) (ap Ok (from_le_bytes-to_le_bytes_4 n small))
 
-module _ (m : PredictorMeaning) (q : PackingMeaning) (n : ℕ) (codes : List ℤ) (long : length codes ≡ n) (counted : Counted n) (words : AllByRecursion Word codes) where
+module _ (m : PredictorMeaning) (q : PackingMeaning) (n : ℕ) (codes : List ℤ) (long : length codes ≡ n) (counted : IsVertexCount n) (words : AllByRecursion Word codes) where
   stored-words : AllByRecursion Word (residues m codes)
   stored-words = residues-words m 0 start codes (omega arith) start-words words
 
@@ -68,9 +61,9 @@ module _ (m : PredictorMeaning) (q : PackingMeaning) (n : ℕ) (codes : List ℤ
   body_back at s rest inside =
       let bs : List ℕ = q.writes (residues m codes) in
       let le : length bs ≤ length (bs ++ rest) = simp length-append (omega arith) in
-      let back : q.reading.reads (length (residues m codes)) bs ≡ numbers (residues m codes) = q.back (residues m codes) (rw stored-long counted) stored-words in
+      let back : q.reading.reads (length (residues m codes)) bs ≡ Ok (residues m codes) = q.back (residues m codes) (rw stored-long counted) stored-words in
       let front : take (length bs) (bs ++ rest) ≡ bs = take_at bs rest _ refl in
-      let read : q.reading.reads n (take (length bs) (bs ++ rest)) ≡ numbers (residues m codes) =
+      let read : q.reading.reads n (take (length bs) (bs ++ rest)) ≡ Ok (residues m codes) =
       ap₂ (λ (k : ℕ) (ys : List ℕ). q.reading.reads k ys) (sym stored-long) front ∙ back in
       let undo : values m (residues m codes) ≡ codes = values-back m 0 start codes (omega arith) start-words words in
       simp (le-ltb (length (bs ++ rest)) (length bs) le, read, undo, inside)

@@ -5,9 +5,10 @@ use Rattle.std.specs.Float.{binary32}
 use Rattle.refusal.specs.declared.Why.{Why}
 use Rattle.refusal.specs.declared.Why.TheVariants.{Truncated, Letter, AxisCount, PredictorByte, PackingByte, VertexCount, ShortList, Code, Trailing}
 use Rattle.refusal.specs.declared.Refusal.{Refusal}
+use Rattle.refusal.specs.Refusals.{refusal_at}
 use Rattle.predict.specs.Predictor.{PredictorMeaning}
 use Rattle.predict.specs.Residues.{values}
-use Rattle.pack.specs.Packing.{ReadingMeaning, Reading, numbers, refused}
+use Rattle.pack.specs.Packing.{ReadingMeaning}
 use Rattle.range.specs.Judged.{refusal}
 use Rattle.range.specs.Scale.{Scale, scale_from, is_code}
 use Rattle.panel.specs.Words.{word}
@@ -15,7 +16,7 @@ use Rattle.panel.specs.Panel.{Axis, Panel}
 
 -- refused for a reason, at a place
 abbrev pub refuse : {X : Type 0} → Why → ℕ → Result X Refusal
-refuse w at = Err (record { why = w; place = at })
+refuse w at = Err (refusal_at w at)
 
 -- the first refusal ends the judging
 abbrev pub and_then : {X Y E : Type 0} → Result X E → (X → Result Y E) → Result Y E
@@ -76,9 +77,9 @@ Rest = List ℕ × ℕ
 
 module _ (m : PredictorMeaning) (q : ReadingMeaning) (n : ℕ) where
   -- the codes of a body, once the predictor is undone
-  abbrev pub undone : ℕ → Scale → Reading → Result (List ℤ) Refusal
-  undone at s (numbers rs) = coded at s (values m rs)
-  undone at s (refused e) = refuse e at
+  abbrev pub undone : ℕ → Scale → Result (List ℤ) Why → Result (List ℤ) Refusal
+  undone at s (Ok rs) = coded at s (values m rs)
+  undone at s (Err e) = refuse e at
 
   -- a body of so many bytes
   unfoldable pub body_at : ℕ → Scale → ℕ → List ℕ → Result (List ℤ) Refusal

@@ -1,9 +1,11 @@
 -- What a store writes is the file of its design points, and is read back.
 use Rattle.std.specs.Prelude.{◌≡◌, ℕ, ◌≤◌, true, List, length, take, Ok}
+use Rattle.std.specs.List.{AllByRecursion}
 use Rattle.kinds.specs.Kind.{KindMeaning}
 use Rattle.predict.specs.Predictor.{PredictorMeaning}
-use Rattle.pack.specs.Packing.{PackingMeaning, Counted}
-use Rattle.range.specs.declared.range.Range.{Range}
+use Rattle.kinds.specs.Count.{IsVertexCount}
+use Rattle.pack.specs.Packing.{PackingMeaning}
+use Rattle.range.specs.Scale.{Scale, IsRange}
 use Rattle.panel.specs.Panel.{panel_of, all_inside}
 use Rattle.panel.specs.Written.{written}
 use Rattle.panel.specs.Judging.{judged}
@@ -12,13 +14,13 @@ use Rattle.panel.specs.Stored.{Outcome, store_of}
 -- A store that says yes wrote the file of points that lie in their ranges.
 abbrev pub StoresTheFile : {P : Type 0} → KindMeaning P → Type 0
 StoresTheFile {P} k =
-    (m : PredictorMeaning) (q : PackingMeaning) (ps : List P) (gs : List Range) (room : ℕ) (old : List ℕ) (n : ℕ) (out : List ℕ)
+    (m : PredictorMeaning) (q : PackingMeaning) (ps : List P) (gs : List Scale) (room : ℕ) (old : List ℕ) (n : ℕ) (out : List ℕ)
     → ◌≡◌ {A = Outcome} (store_of k m q ps gs room old) (Ok n, out)
-    → Counted (length ps) × (all_inside k gs ps ≡ true) × (take n out ≡ written m q (panel_of k gs ps))
+    → IsVertexCount (length ps) × (all_inside k gs ps ≡ true) × (take n out ≡ written m q (panel_of k gs ps))
 
 -- The file of points that lie in their ranges is accepted where the point list has room, and means their panel.
 abbrev pub EveryFileReadBack : {P : Type 0} → KindMeaning P → Type 0
 EveryFileReadBack {P} k =
-    (m : PredictorMeaning) (q : PackingMeaning) (ps : List P) (gs : List Range) (room : ℕ)
-    → Counted (length ps) → length ps ≤ room → k.axes ≤ length gs → all_inside k gs ps ≡ true
+    (m : PredictorMeaning) (q : PackingMeaning) (ps : List P) (gs : List Scale) (room : ℕ)
+    → AllByRecursion IsRange gs → IsVertexCount (length ps) → length ps ≤ room → k.axes ≤ length gs → all_inside k gs ps ≡ true
     → judged m q.reading k.axes room (written m q (panel_of k gs ps)) ≡ Ok (panel_of k gs ps)

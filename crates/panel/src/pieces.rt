@@ -1,6 +1,7 @@
 // The pieces of a panel file: each begins with its letter, and numbers have their low byte first.
-ghost use Rattle.std.specs.Prelude.{◌≡◌};
-ghost use Rattle.range.specs.Scale.{scale_of};
+ghost use Rattle.std.specs.Prelude.{◌≡◌, ◌+◌, ◌≤◌, length};
+ghost use Rattle.range.specs.Scale.{Scale};
+ghost use Rattle.panel.specs.Bytes.{overwritten};
 ghost use Rattle.panel.specs.Written.{head_piece, range_piece, length_piece};
 
 use range::range::Range;
@@ -33,7 +34,7 @@ pub(crate) fn head_piece(axes: u8, predictor: u8, packing: u8, count: u32) -> [u
 }
 
 pub(crate) fn range_piece(range: &Range) -> [u8; 10]
-    ensures { result ≡ range_piece (scale_of range.now) }
+    ensures { result ≡ range_piece range.now }
 {
     let [a, b, c, d] = range.lower_word().to_le_bytes();
     let [e, f, g, h] = range.upper_word().to_le_bytes();
@@ -45,4 +46,12 @@ pub(crate) fn length_piece(length: u32) -> [u8; 5]
 {
     let [a, b, c, d] = length.to_le_bytes();
     [LENGTH_LETTER, a, b, c, d]
+}
+
+// Writes bytes over those from a place on.
+pub(crate) fn put(file: &mut [u8], at: usize, bytes: &[u8])
+    requires { at + length bytes.now ≤ length file.old }
+    ensures { file.new ≡ overwritten file.old at bytes.now }
+{
+    file[at..at + bytes.len()].copy_from_slice(bytes);
 }

@@ -1,124 +1,42 @@
-use Rattle.std.proofs.Common.{◌+◌, ◌-◌, length, drop, Err, sym, refl, ap, ◌∙◌, arith}
+use Rattle.std.proofs.Common.{◌+◌, ◌-◌, Err, sym, refl, ap, ◌∙◌, arith, w32}
 use Rattle.std.proofs.lemmas.Bool.{and_left}
-use Rattle.pack.specs.Packing.{listed}
-use Rattle.range.specs.Scale.{scale_of}
-use Rattle.panel.specs.Judging.{Rest}
-use Rattle.load.proofs.Undo.{same, accepted-from, count-list, undone-in, undone-out, undone-refused, codes-next, codes-go, codes-past}
-use Rattle.load.proofs.Axis.{shut-range, shut-body, opens}
-use Rattle.load.proofs.Walk.{shuts, stops, goes, left-on, left-none}
+use Rattle.std.proofs.lemmas.Int.{to_z-of_z}
+use Rattle.std.proofs.lemmas.Result.{err_from_is_err_and}
+use Rattle.load.specs.Steps.{past_of}
+use Rattle.load.proofs.Codes.{codes_next, codes_go, codes_past}
+use Rattle.load.proofs.Walk.{walk_refused, walk_on, walk_astray, no_axes}
 use Rattle.load.proofs.judge.axes.Goals as goal
 
-pub returns-in-Err : goal.returns-in-Err
-returns-in-Err g c =
-    let m = g.P.Predictor.means in
-    let q = g.Q.Packing.means.reading in
-    let f = c.args.file.now in
-    let p : Rest = (drop c.axes.at f, c.axes.at) in
-    record {
-      value =
-          sym (left-on m q c.args.n c.args.count c.axes.axis p _ _ c.axes-test.true c.axes.invariant.0
-          (shuts m q c.args.n (c.args.count - (c.axes.axis + 1)) p c.in-Err.e (shut-range f c.axes.at c.in-Err.e c.in-Err.ensures.value)));
-      long = tt;
-    }
+pub returns-in_err-axis : goal.returns-in_err-axis
+returns-in_err-axis g c =
+    let p = err_from_is_err_and c.from_residual.result c.from_residual.ensures.1 in
+    rw (p.1, p.2)
+    (walk_refused _ g.P.Predictor.means g.Q.Unpacking.reading c.args.n _ (c.args.count - (c.loop.counter + 1)) c.loop.left (omega arith) _ c.in_err-axis.ensures.value ∙ c.loop.invariant)
 
-pub returns-in-Err-body_at : goal.returns-in-Err-body_at
-returns-in-Err-body_at g c =
-    let m = g.P.Predictor.means in
-    let q = g.Q.Packing.means.reading in
-    let f = c.args.file.now in
-    let p : Rest = (drop c.axes.at f, c.axes.at) in
-    let e = c.in-Err-body_at.e in
-    record {
-      value =
-          sym (left-on m q c.args.n c.args.count c.axes.axis p _ _ c.axes-test.true c.axes.invariant.0
-          (shuts m q c.args.n (c.args.count - (c.axes.axis + 1)) p e
-          (shut-body f c.axes.at (scale_of c.in-Ok.range) c.in-Ok.ensures.value e c.in-Err-body_at.ensures.value)));
-      long = tt;
-    }
+pub loop-i-preserved : goal.loop-i-preserved
+loop-i-preserved g c =
+    let code = to_z-of_z w32 c.code-code.result (record { sfits = c.code-code.type_inv }) ∙ c.code-code.ensures in
+    codes_go g.P.Predictor.means c.loop-i.before c.in_ok-axis.axis.body c.loop-i.i _ _ (omega (arith, c.len-i-end.ensures.value)) code c.then-before.ensures c.in_ok-axis.axis.range c.if-not-is_code.ensures
+    ∙ c.loop-i.invariant
 
-pub returns-in-Err-judge : goal.returns-in-Err-judge
-returns-in-Err-judge g c =
+pub loop-preserved : goal.loop-preserved
+loop-preserved g c =
     let m = g.P.Predictor.means in
-    let q = g.Q.Packing.means.reading in
-    let f = c.args.file.now in
-    let s = scale_of c.in-Ok.range in
-    let bytes = c.in-Ok-body_at.body.0.now in
-    let offset = c.in-Ok-body_at.body.1 in
-    let p : Rest = (drop c.axes.at f, c.axes.at) in
-    let next : Rest = (drop (offset + length bytes) f, offset + length bytes) in
-    record {
-      value =
-          ap Err c.refused.ensures
-          ∙ sym (left-on m q c.args.n c.args.count c.axes.axis p _ _ c.axes-test.true c.axes.invariant.0
-          (stops m q c.args.n (c.args.count - (c.axes.axis + 1)) p s bytes offset next
-          (opens f c.axes.at s c.in-Ok.ensures.value bytes offset c.in-Ok-body_at.ensures.value) _
-          (undone-refused m q c.args.n offset s c.in-Err-judge.why _ c.in-Err-judge.ensures)));
-      long = tt;
-    }
+    let x = c.in_ok-axis.axis in
+    let sound = sym c.loop-i.invariant ∙ codes_past m c.loop-i.before x.body c.loop-i.i x.range (omega (arith, c.len-i-end.ensures.value)) in
+    walk_on _ m g.Q.Unpacking.reading c.args.n _ _ c.loop.left (omega arith) x c.in_ok-axis.after c.in_ok-axis.ensures.value sound ∙ c.loop.invariant
 
 pub returns-then-not-is_code : goal.returns-then-not-is_code
 returns-then-not-is_code g c =
     let m = g.P.Predictor.means in
-    let q = g.Q.Packing.means.reading in
-    let f = c.args.file.now in
-    let s = scale_of c.in-Ok.range in
-    let bytes = c.in-Ok-body_at.body.0.now in
-    let offset = c.in-Ok-body_at.body.1 in
-    let p : Rest = (drop c.axes.at f, c.axes.at) in
-    let next : Rest = (drop (offset + length bytes) f, offset + length bytes) in
-    let ok = accepted-from (q.reads c.args.n bytes) c.in_default.field-0 c.in_default.ensures in
-    let long = count-list q c.args.n bytes ok in
-    let e = same c.entry.result (record { sfits = c.entry.type_inv }) ∙ c.entry.ensures in
-    let v = same c.restored-code.result (record { sfits = c.restored-code.type_inv }) ∙ c.restored-code.ensures in
-    record {
-      value =
-          ap Err c.refused-then-not-is_code.ensures
-          ∙ sym (left-on m q c.args.n c.args.count c.axes.axis p _ _ c.axes-test.true c.axes.invariant.0
-          (stops m q c.args.n (c.args.count - (c.axes.axis + 1)) p s bytes offset next
-          (opens f c.axes.at s c.in-Ok.ensures.value bytes offset c.in-Ok-body_at.ensures.value) _
-          (sym (undone-out m q c.args.n offset s bytes ok
-          (sym c.vertices.invariant
-          ∙ codes-next m c.vertices.before (listed (q.reads c.args.n bytes)) c.vertices.i _ _ _ (omega arith) e v refl s
-          ∙ and_left _ _ (sym c.if-not-is_code.ensures))))));
-      long = tt;
-    }
+    let x = c.in_ok-axis.axis in
+    let code = to_z-of_z w32 c.code-code.result (record { sfits = c.code-code.type_inv }) ∙ c.code-code.ensures in
+    let stray = sym c.loop-i.invariant
+    ∙ codes_next m c.loop-i.before x.body c.loop-i.i _ _ (omega (arith, c.len-i-end.ensures.value)) code refl x.range
+    ∙ and_left _ _ (sym c.if-not-is_code.ensures) in
+    ap Err c.at.ensures
+    ∙ walk_astray _ m g.Q.Unpacking.reading c.args.n _ (c.args.count - (c.loop.counter + 1)) c.loop.left (omega arith) x c.in_ok-axis.after c.in_ok-axis.ensures.value stray ∙ c.loop.invariant
 
-pub vertices-preserved : goal.vertices-preserved
-vertices-preserved g c =
-    let m = g.P.Predictor.means in
-    let q = g.Q.Packing.means.reading in
-    let bytes = c.in-Ok-body_at.body.0.now in
-    let ok = accepted-from (q.reads c.args.n bytes) c.in_default.field-0 c.in_default.ensures in
-    let long = count-list q c.args.n bytes ok in
-    let e = same c.entry.result (record { sfits = c.entry.type_inv }) ∙ c.entry.ensures in
-    let v = same c.restored-code.result (record { sfits = c.restored-code.type_inv }) ∙ c.restored-code.ensures in
-    codes-go m c.vertices.before (listed (q.reads c.args.n bytes)) c.vertices.i _ _ _ (omega arith) e v c.then-before.ensures (scale_of c.in-Ok.range) c.if-not-is_code.ensures
-    ∙ c.vertices.invariant
-
-pub axes-preserved : goal.axes-preserved
-axes-preserved g c =
-    let m = g.P.Predictor.means in
-    let q = g.Q.Packing.means.reading in
-    let f = c.args.file.now in
-    let s = scale_of c.in-Ok.range in
-    let bytes = c.in-Ok-body_at.body.0.now in
-    let offset = c.in-Ok-body_at.body.1 in
-    let p : Rest = (drop c.axes.at f, c.axes.at) in
-    let next : Rest = (drop (offset + length bytes) f, offset + length bytes) in
-    let ok = accepted-from (q.reads c.args.n bytes) c.in_default.field-0 c.in_default.ensures in
-    let long = count-list q c.args.n bytes ok in (
-      left-on m q c.args.n c.args.count c.axes.axis p _ _ c.axes-test.true c.axes.invariant.0
-          (goes m q c.args.n (c.args.count - (c.axes.axis + 1)) p s bytes offset next
-          (opens f c.axes.at s c.in-Ok.ensures.value bytes offset c.in-Ok-body_at.ensures.value)
-          (sym (undone-in m q c.args.n offset s bytes ok
-          (sym c.vertices.invariant ∙ codes-past m c.vertices.before (listed (q.reads c.args.n bytes)) c.vertices.i s (omega arith))))),
-      omega (arith, c.in-Ok-body_at.ensures.long, c.in-Ok.ensures.long),
-    )
-
-pub returns : goal.returns
-returns g c =
-    record {
-      value =
-          sym (left-none g.P.Predictor.means g.Q.Packing.means.reading c.args.n c.args.count c.axes.axis (drop c.axes.at c.args.file.now, c.axes.at) _ c.axes-test.false c.axes.invariant.0);
-      long = c.axes.invariant.1;
-    }
+pub returns-after-loop : goal.returns-after-loop
+returns-after-loop g c =
+    sym (ap past_of (no_axes g.P.Predictor.means g.Q.Unpacking.reading c.args.n (c.args.count - c.loop.counter) c.loop.left (omega arith))) ∙ c.loop.invariant

@@ -1,20 +1,15 @@
-use Rattle.std.proofs.Common.{◌≡◌, ◌-◌, ◌≤◌, length, drop}
+use Rattle.std.proofs.Common.{◌≡◌, ◌-◌, drop}
 use Rattle.predict.specs.Residues.{values_from, values}
-use Rattle.pack.specs.Packing.{listed}
-use Rattle.range.specs.Scale.{scale_of}
 use Rattle.panel.specs.Judging.{axes_at, all_codes}
 use Rattle.load.specs.Steps.{past_of}
 use Rattle.load.proofs.judge.axes.Given as goal
 
--- the vertices that are left tell of the whole axis
-abbrev pub invariant-vertices : goal.invariant-vertices
-invariant-vertices g l =
-    all_codes (scale_of l.range) (values_from g.P.Predictor.means l.i l.before (drop l.i (listed (g.Q.Packing.means.reading.reads l.n l.bytes))))
-    ≡ all_codes (scale_of l.range) (values g.P.Predictor.means (listed (g.Q.Packing.means.reading.reads l.n l.bytes)))
+-- the entries that are left tell of the whole axis
+abbrev pub invariant-loop-i : goal.invariant-loop-i
+invariant-loop-i g l =
+    all_codes l.axis.range (values_from g.P.Predictor.means l.i l.before (drop l.i l.axis.body)) ≡ all_codes l.axis.range (values g.P.Predictor.means l.axis.body)
 
--- the axes that are left tell of the whole file
-abbrev pub invariant-axes : goal.invariant-axes
-invariant-axes g l =
-    (past_of (axes_at g.P.Predictor.means g.Q.Packing.means.reading l.n l.count (drop 8 l.file, 8))
-    ≡ past_of (axes_at g.P.Predictor.means g.Q.Packing.means.reading l.n (l.count - l.axis) (drop l.at l.file, l.at)))
-    × (l.at ≤ length l.file)
+-- the axes that are left tell of them all
+abbrev pub invariant-loop : goal.invariant-loop
+invariant-loop g l =
+    past_of (axes_at g.P.Predictor.means g.Q.Unpacking.reading l.n (l.count - l.counter) l.left) ≡ past_of (axes_at g.P.Predictor.means g.Q.Unpacking.reading l.n l.count l.fn.rest)

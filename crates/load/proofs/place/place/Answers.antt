@@ -1,12 +1,15 @@
-use Rattle.load.proofs.Exits.{accepted, placed-all}
+use Rattle.std.proofs.Common.{length, is_ok, ap, ◌∙◌}
+use Rattle.panel.specs.Judging.{axes_at}
+use Rattle.load.specs.Filling.{fill_by}
+use Rattle.load.proofs.Accepted.{accepted, placed_all}
 use Rattle.load.proofs.place.place.Goals as goal
-use Rattle.std.proofs.Common.{length}
 
-pub place_axes-requires : goal.place_axes-requires
-place_axes-requires g c =
-    let x = accepted g.P.Predictor.means g.Q.Packing.means.reading g.K.PointKind.kind.axes (length c.args.points.now) c.args.file.now c.args.n c.requires in
-    record { counted = x.counted; headed = x.headed; room = x.fits; accepted = x.axes_read }
+pub place_axes-requires-clause-accepted : goal.place_axes-requires-clause-accepted
+place_axes-requires-clause-accepted g c =
+    let x = accepted g.P.Predictor.means g.Q.Unpacking.reading g.K.PointKind.kind.axes (length c.args.points.now) c.args.file.now c.args.n c.requires.accepted in
+    ap (λ r. is_ok (axes_at g.P.Predictor.means g.Q.Unpacking.reading c.args.n g.K.PointKind.kind.axes r)) c.of.ensures ∙ ap is_ok x.axes_are
 
 pub returns : goal.returns
 returns g c =
-    placed-all g.K.PointKind.kind g.P.Predictor.means g.Q.Packing.means.reading c.args.file.now c.args.points.now c.place_axes.new.points c.args.n c.requires c.place_axes.ensures
+    placed_all g.K.PointKind.kind g.P.Predictor.means g.Q.Unpacking.reading c.args.file.now c.args.points.now c.place_axes.new.points c.args.n c.requires.room c.requires.accepted
+    (c.place_axes.ensures ∙ ap (λ r. fill_by g.K.PointKind.kind 0 (axes_at g.P.Predictor.means g.Q.Unpacking.reading c.args.n g.K.PointKind.kind.axes r) c.args.points.now) c.of.ensures)

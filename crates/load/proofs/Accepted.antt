@@ -1,0 +1,117 @@
+-- The points of an accepted file, once they are filled axis by axis. Assumes nothing.
+use Rattle.std.proofs.Common.{◌≡◌, ℕ, zero, suc, ◌+◌, ◌≤◌, ltb, List, [], ◌∷◌, ◌++◌, length, take, drop, ℤ, Ok, Err, Result, sym, refl, ap, ◌∙◌, subst}
+use Rattle.std.specs.List.{AllByRecursion}
+use Rattle.std.proofs.lemmas.Bool.{cond_both}
+use Rattle.refusal.specs.declared.Why.{Why}
+use Rattle.refusal.specs.declared.Refusal.{Refusal}
+use Rattle.kinds.specs.Kind.{KindMeaning}
+use Rattle.predict.specs.declared.Before.{Before}
+use Rattle.predict.specs.Predictor.{PredictorMeaning}
+use Rattle.predict.specs.Residues.{start, after, restored, values_from, values}
+use Rattle.pack.specs.Packing.{ReadingMeaning}
+use Rattle.range.specs.Scale.{Scale}
+use Rattle.panel.specs.Panel.{Axis, Panel}
+use Rattle.panel.specs.Judging.{and_then, Rest, head_at, range_at, length_at, end_at, body_at, axis_at, axes_at, undone, more, all_codes, judged}
+use Rattle.panel.specs.Placed.{filled, placed, load_of}
+use Rattle.load.specs.Steps.{count_of}
+use Rattle.load.specs.Filling.{fill_by}
+use Rattle.load.proofs.Firsts.{apart}
+use Rattle.load.proofs.Points.{points-are}
+
+module _ (m : PredictorMeaning) (q : ReadingMeaning) (n : ℕ) where
+  length-values : (i : ℕ) (b : Before) (rs : List ℤ) → length (values_from m i b rs) ≡ length rs
+  unfolding values_from
+  length-values i b [] = refl
+  length-values i b (r ∷ rs) = ap suc (length-values (i + 1) (after b (restored m i b r)) rs)
+
+  abbrev Sized : Result (List ℤ) Refusal → Type 0
+  Sized (Ok cs) = length cs ≡ n
+  Sized (Err e) = Unit {0}
+
+  abbrev Long : Result (Axis × Rest) Refusal → Type 0
+  Long (Ok x) = length x.0.codes ≡ n
+  Long (Err e) = Unit {0}
+
+  abbrev Full : ℕ → Result (List Axis × Rest) Refusal → Type 0
+  Full j (Ok y) = (length y.0 ≡ j) × AllByRecursion (λ x. length x.codes ≡ n) y.0
+  Full j (Err e) = Unit {0}
+
+  undone-sized : (at : ℕ) (s : Scale) (body : List ℕ) (r : Result (List ℤ) Why) → q.reads n body ≡ r → Sized (undone m q n at s r)
+  undone-sized at s body (Ok rs) e = cond_both (all_codes s (values m rs)) _ _ Sized (λ _. length-values 0 start rs ∙ q.counts n body rs e) (λ _. tt)
+  undone-sized at s body (Err k) e = tt
+
+  body-sized : (at : ℕ) (s : Scale) (len : ℕ) (bs : List ℕ) → Sized (body_at m q n at s len bs)
+  unfolding body_at
+  body-sized at s len bs = cond_both (ltb (length bs) len) _ _ Sized (λ _. tt) (λ _. undone-sized at s (take len bs) (q.reads n (take len bs)) refl)
+
+  with-codes : (s : Scale) (p : Rest) (u : Result (List ℤ) Refusal) → Sized u → Long (and_then u (λ cs. Ok (record { scale = s; codes = cs }, p)))
+  with-codes s p (Ok cs) h = h
+  with-codes s p (Err e) h = tt
+
+  with-length : (s : Scale) (p : Rest) (r : Result ℕ Refusal) →
+      Long (and_then r (λ len. and_then (body_at m q n (p.1 + 15) s len (drop 15 p.0)) (λ cs. Ok (record { scale = s; codes = cs }, (drop (15 + len) p.0, p.1 + (15 + len))))))
+  with-length s p (Ok len) = with-codes s _ _ (body-sized (p.1 + 15) s len (drop 15 p.0))
+  with-length s p (Err e) = tt
+
+  with-range : (p : Rest) (r : Result Scale Refusal) →
+      Long (and_then r (λ s. and_then (length_at (p.1 + 10) (drop 10 p.0)) (λ len. and_then (body_at m q n (p.1 + 15) s len (drop 15 p.0)) (λ cs. Ok (record { scale = s; codes = cs }, (drop (15 + len) p.0, p.1 + (15 + len)))))))
+  with-range p (Ok s) = with-length s p (length_at (p.1 + 10) (drop 10 p.0))
+  with-range p (Err e) = tt
+
+  axis-long : (p : Rest) → Long (axis_at m q n p)
+  unfolding axis_at
+  axis-long p = with-range p (range_at p.1 p.0)
+
+  more-full : (j : ℕ) (x : Axis) (y : Result (List Axis × Rest) Refusal) → length x.codes ≡ n → Full j y → Full (suc j) (more m q n x y)
+  more-full j x (Ok y) h f = (ap suc f.0, (h, f.1))
+  more-full j x (Err e) h f = tt
+
+  on-axis : (j : ℕ) (r : Result (Axis × Rest) Refusal) → Long r → ((p : Rest) → Full j (axes_at m q n j p)) → Full (suc j) (and_then r (λ x. more m q n x.0 (axes_at m q n j x.1)))
+  on-axis j (Ok x) h f = more-full j x.0 (axes_at m q n j x.1) h (f x.1)
+  on-axis j (Err e) h f = tt
+
+  pub full : (j : ℕ) (p : Rest) → Full j (axes_at m q n j p)
+  unfolding axes_at
+  full zero p = (refl, tt)
+  full (suc j) p = on-axis j (axis_at m q n p) (axis-long p) (full j)
+
+module _ (m : PredictorMeaning) (q : ReadingMeaning) (axes room : ℕ) (file : List ℕ) where
+  -- the axes of an accepted file
+  pub record Accepted (n : ℕ) (judging : Result Panel Refusal) : Type 0 where
+    pub panel : List Axis
+    pub rest : Rest
+    pub axes_are : axes_at m q n axes (drop 8 file, 8) ≡ Ok (panel, rest)
+    pub reads : judging ≡ Ok (record { count = n; axes = panel })
+
+  by_end : (n k : ℕ) (y : List Axis × Rest) (u : Result (Unit {0}) Refusal) → axes_at m q k axes (drop 8 file, 8) ≡ Ok y →
+      count_of (and_then u (λ _. Ok (record { count = k; axes = y.0 }))) ≡ Ok n → Accepted n (and_then u (λ _. Ok (record { count = k; axes = y.0 })))
+  by_end n k y (Ok tt) a c =
+      let same : k ≡ n = cc in
+      record { panel = y.0; rest = y.1; axes_are = ap (λ i. axes_at m q i axes (drop 8 file, 8)) (sym same) ∙ a; reads = ap (λ i. Ok (record { count = i; axes = y.0 })) same }
+  by_end n k y (Err d) a c = absurd (apart (sym c))
+
+  by_axes : (n k : ℕ) (r : Result (List Axis × Rest) Refusal) → axes_at m q k axes (drop 8 file, 8) ≡ r →
+      count_of (and_then r (λ x. and_then (end_at x.1.1 x.1.0) (λ _. Ok (record { count = k; axes = x.0 })))) ≡ Ok n →
+      Accepted n (and_then r (λ x. and_then (end_at x.1.1 x.1.0) (λ _. Ok (record { count = k; axes = x.0 }))))
+  by_axes n k (Ok y) a c = by_end n k y (end_at y.1.1 y.1.0) a c
+  by_axes n k (Err d) a c = absurd (apart (sym c))
+
+  by_head : (n : ℕ) (r : Result ℕ Refusal) →
+      count_of (and_then r (λ k. and_then (axes_at m q k axes (drop 8 file, 8)) (λ x. and_then (end_at x.1.1 x.1.0) (λ _. Ok (record { count = k; axes = x.0 }))))) ≡ Ok n →
+      Accepted n (and_then r (λ k. and_then (axes_at m q k axes (drop 8 file, 8)) (λ x. and_then (end_at x.1.1 x.1.0) (λ _. Ok (record { count = k; axes = x.0 })))))
+  by_head n (Ok k) c = by_axes n k (axes_at m q k axes (drop 8 file, 8)) refl c
+  by_head n (Err d) c = absurd (apart (sym c))
+
+  pub accepted : (n : ℕ) → count_of (judged m q axes room file) ≡ Ok n → Accepted n (judged m q axes room file)
+  unfolding judged
+  accepted n c = by_head n (head_at axes m.number q.number room file) c
+
+pub placed_all : {P : Type 0} (k : KindMeaning P) (m : PredictorMeaning) (q : ReadingMeaning) (file : List ℕ) (old out : List P) (n : ℕ) → n ≤ length old →
+    count_of (judged m q k.axes (length old) file) ≡ Ok n → out ≡ fill_by k 0 (axes_at m q n k.axes (drop 8 file, 8)) old →
+    ◌≡◌ {A = Result ℕ Refusal × List P} (Ok n, out) (load_of k m q file old)
+placed_all {P} k m q file old out n room c fill =
+    let x = accepted m q k.axes (length old) file n c in
+    let f : Full m q n k.axes (Ok (x.panel, x.rest)) = subst (Full m q n k.axes) x.axes_are (full m q n k.axes (drop 8 file, 8)) in
+    let points : out ≡ placed k (record { count = n; axes = x.panel }) ++ drop n old =
+    fill ∙ ap (λ r. fill_by k 0 r old) x.axes_are ∙ points-are k x.panel n old f.0 f.1 room in
+    ap (λ (ps : List P). (Ok n, ps)) points ∙ sym (ap (λ r. filled k r old) x.reads)
