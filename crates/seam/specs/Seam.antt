@@ -1,20 +1,24 @@
 -- The split of a line of points: which vertices it keeps, and when it is refused.
-use Rattle.std.specs.Prelude.{ℕ, ◌+◌, ◌-◌, ◌<◌, Bool, true, cond, ◌&&◌, ◌||◌, List, [], ◌∷◌, ◌++◌, length, take, drop, replicate, Some, None, Ok, Err, Option, Result, nat_le, nat_lt, slice_set, unsigned_abs}
+use Rattle.std.specs.Prelude.{ℕ, ◌+◌, ◌-◌, Bool, cond, ◌&&◌, ◌||◌, List, ◌++◌, length, take, drop, replicate, Some, None, Ok, Err, Option, Result, nat_le, nat_lt, slice_set, unsigned_abs}
+use Rattle.std.specs.List.{list_all}
+use Rattle.kinds.specs.Count.{is_vertex_count}
 use Rattle.kinds.specs.Kind.{KindMeaning}
-use Rattle.kinds.specs.Vertex.{Vertex, at, told}
+use Rattle.kinds.specs.Vertex.{Vertex, told}
 use Rattle.refusal.specs.declared.Why.{Why}
 use Rattle.refusal.specs.declared.Why.TheVariants.{Tolerance, VertexCount, ShortList, Unfit}
 use Rattle.seam.specs.Heaviest.{heaviest}
+use Rattle.seam.specs.declared.line.Weighed.{Weighed}
 use Rattle.seam.specs.Split.{Tree, tree, marked, kept, waits}
-use Rattle.seam.specs.Weight.{OnBench, weight, limit}
+use Rattle.seam.specs.Weight.{weight, limit}
 
 -- how many vertices lie inside the chord from a to b
 abbrev pub inner : ℕ → ℕ → ℕ
 inner a b = b - a - 1
 
 -- a chord is split at its heaviest inner vertex, if that is not near
-abbrev pub picked : ℕ → ℕ × ℕ → Option ℕ
-picked limit best = cond (nat_lt limit best.1) (Some best.0) None
+abbrev pub picked : ℕ → Option Weighed → Option ℕ
+picked limit None = None
+picked limit (Some best) = cond (nat_lt limit best.weight) (Some best.vertex) None
 
 -- where the chord from a to b is split, at the tolerance t
 unfoldable pub pick : List Vertex → ℕ → ℕ → ℕ → Option ℕ
@@ -34,20 +38,11 @@ close_by v = nat_le (unsigned_abs (v 0)) 1048576 && nat_le (unsigned_abs (v 1)) 
 
 -- each vertex lies within the bench
 abbrev pub all_close_by : List Vertex → Bool
-all_close_by [] = true
-all_close_by (v ∷ vs) = close_by v && all_close_by vs
-
--- the first n vertices do, axis by axis
-abbrev pub Within : List Vertex → ℕ → Type 0
-Within vs n = (k : ℕ) → k < n → OnBench (at vs k 0) × OnBench (at vs k 1) × OnBench (at vs k 2)
+all_close_by vs = list_all close_by vs
 
 -- the points or the marks are fewer than the n vertices
 abbrev pub short_list : {P : Type 0} → ℕ → List P → List ℕ → Bool
 short_list n points marks = nat_lt (length points) n || nat_lt (length marks) n
-
--- a line has 2 to 4,096 vertices
-abbrev pub proper_count : ℕ → Bool
-proper_count n = nat_le 2 n && nat_le n 4096
 
 module _ {P : Type 0} (k : KindMeaning P) where
   -- how the line of n points is split
@@ -64,7 +59,7 @@ module _ {P : Type 0} (k : KindMeaning P) where
   -- the same, where n itself may be wrong
   abbrev pub why_not_any : ℕ → ℕ → List P → List ℕ → Option Why
   why_not_any t n points marks =
-      cond (proper_count n) (why_not t n points marks) (cond (nat_lt 256 t) (Some Tolerance) (Some VertexCount))
+      cond (is_vertex_count n) (why_not t n points marks) (cond (nat_lt 256 t) (Some Tolerance) (Some VertexCount))
 
   -- refused, the marks stay; else how many vertices are kept, how many chords waited at most, and the marks
   abbrev pub split_unless : Option Why → ℕ → ℕ → List P → List ℕ → Result (ℕ × ℕ) Why × List ℕ
