@@ -1,99 +1,82 @@
 -- A panel's four calls, one after another.
 use Rattle.std.proofs.Common.{◌≡◌, ℕ, ltb, List, [], ◌∷◌, length, take, IfOk, Ok, Err, Option, Result, sym, refl, ap, ◌∙◌, subst, arith}
 use Rattle.std.proofs.lemmas.Bool.{cond_both}
+use Rattle.refusal.specs.declared.Why.{Why}
 use Rattle.refusal.specs.declared.Refusal.{Refusal}
-use Rattle.refusal.specs.declared.Why.TheVariants.{NoSpace, AlreadyClosed}
 use Rattle.kinds.specs.Kind.{KindMeaning}
 use Rattle.predict.specs.Predictor.{PredictorMeaning}
 use Rattle.pack.specs.Packing.{ReadingMeaning}
-use Rattle.law.specs.declared.Stage.{Stage}
-use Rattle.law.specs.declared.Stage.TheVariants.{Empty, Loaded, Split, Closed}
-use Rattle.law.specs.Calls.{Call, load, split, cut, close, State, Answer, one, two, no, Outcome, outcome, new, refused, finished, close_at, step}
+use Rattle.law.specs.Calls.{Call, load, split, cut, close, Desk, State, Outcome, Done, fresh, new, opened, finished, close_at, close_on, load_on, split_on, cut_on, on_points, on_marks, on_program}
 use Rattle.law.specs.Runs.{run, accepted, noted}
 use Rattle.law.specs.Law.{MisplacesNone, NoRunMisplacesAPanel}
-use Rattle.bench.specs.States.{counted}
-use Rattle.bench.specs.Onward.{Sight, sight, seen, unless_refused, onward}
 
--- what the exit of a refused call answers
-pub exit : (r : Result ℕ Refusal) (y e : Refusal) → r ≡ Err y → y ≡ e → no e ≡ counted r
-exit r y e is same = ap no (sym same) ∙ sym (ap counted is)
+-- an accepted close answers the program's length
+module _ (d d' : Desk) (program program' : List ℕ) (n : ℕ) where
+  abbrev Tells : Done ℕ (List ℕ) → Type 0
+  Tells done = ◌≡◌ {A = Done ℕ (List ℕ)} (Ok n, d', program') done → d'.size ≡ n
 
-module _ {P : Type 0} (k : KindMeaning P) where
-  -- an accepted close answers the program's length
-  module _ (s s' : State P) (n : ℕ) where
-    abbrev Tells : Outcome P → Type 0
-    Tells o = o ≡ outcome s' (one n) → s'.size ≡ n
+  never : (e : Refusal) (done : Done ℕ (List ℕ)) → done.0 ≡ Err e → Tells done
+  never e done refuses is =
+      let answers : ◌≡◌ {A = Result ℕ Refusal} (Ok n) (Err e) = ap (λ (x : Done ℕ (List ℕ)). x.0) is ∙ refuses in
+      let absent : ◌≡◌ {A = ℕ} 0 1 = cc in
+      absurd (omega arith)
 
-    never : (e : Refusal) (o : Outcome P) → o.answer ≡ no e → Tells o
-    never e o refuses is =
-        let answers : o.answer ≡ one n = ap (λ (x : Outcome P). x.answer) is in
-        let absent : ◌≡◌ {A = ℕ} 0 1 = cc in
-        absurd (omega arith)
+  finished-tells : Tells (finished d program)
+  finished-tells =
+      cond_both (ltb d.size (length program)) _ _ Tells
+      (λ _ is.
+      let answers = ap (λ (x : Done ℕ (List ℕ)). x.0) is in
+      let long = ap (λ (x : Done ℕ (List ℕ)). x.1.size) is in
+      cc)
+      (λ _. never _ _ refl)
 
-    finished-tells : Tells (finished k s)
-    finished-tells =
-        cond_both (ltb s.size (length s.program)) _ _ Tells
-        (λ _ is.
-        let long = ap (λ (x : Outcome P). x.after.size) is in
-        let answers = ap (λ (x : Outcome P). x.answer) is in
-        cc)
-        (λ _. never _ (refused s NoSpace) refl)
+  close-tells : (r : Result (Unit {0}) Why) → Tells (close_at r d program)
+  close-tells (Ok done) = finished-tells
+  close-tells (Err w) = never _ _ refl
 
-    close-tells : (stage : Stage) → Tells (close_at k stage s)
-    close-tells Empty = finished-tells
-    close-tells Loaded = finished-tells
-    close-tells Split = finished-tells
-    close-tells Closed = never _ (refused s AlreadyClosed) refl
+module _ {P : Type 0} (k : KindMeaning P) (m : PredictorMeaning) (q : ReadingMeaning) (file : List ℕ) (t : Option ℕ) (ps : List P) (ms bs : List ℕ) where
+  abbrev Calls : List Call
+  Calls = load m q file ∷ split t ∷ cut ∷ close ∷ []
 
-  module _ (m : PredictorMeaning) (q : ReadingMeaning) (file : List ℕ) (t : Option ℕ) (ps : List P) (ms bs : List ℕ) where
-    abbrev Calls : List Call
-    Calls = load m q file ∷ split t ∷ cut ∷ close ∷ []
+  abbrev State1 : Desk → List P → List ℕ → List ℕ → State P
+  State1 d points marks program = record { desk = d; points = points; marks = marks; program = program }
 
-    abbrev Whole : Sight P
-    Whole = onward k (new ps ms bs) (load m q file) (split t ∷ cut ∷ close ∷ [])
+  abbrev ran : List Call → Outcome P → State P
+  ran cs o = run k o.after cs
 
-    -- what comes of an answer
-    abbrev On : State P → Answer → Call → List Call → Sight P
-    On s r c cs = unless_refused r (sight r s.points s.marks s.program) (onward k s c cs)
+  abbrev adds : Call → List Call → Outcome P → List Call
+  adds c cs o = noted k c o.answer (accepted k o.after cs)
 
-    next : (s s' : State P) (r : Answer) (c d : Call) (ds : List Call) → step k s c ≡ outcome s' r → onward k s c (d ∷ ds) ≡ On s' r d ds
-    next s s' r c d ds is = ap (λ (o : Outcome P). On o.after o.answer d ds) is
+  -- a panel that all four calls accept is placed as the law says
+  module _ (d1 : Desk) (ps1 : List P) (n1 : ℕ) (loads : ◌≡◌ {A = Done ℕ (List P)} (Ok n1, d1, ps1) (load_on k m q file fresh ps))
+      (d2 : Desk) (ms2 : List ℕ) (n2 : ℕ × ℕ) (splits : ◌≡◌ {A = Done (ℕ × ℕ) (List ℕ)} (Ok n2, d2, ms2) (split_on k t d1 ps1 ms))
+      (d3 : Desk) (bs3 : List ℕ) (n3 : ℕ) (cuts : ◌≡◌ {A = Done ℕ (List ℕ)} (Ok n3, d3, bs3) (cut_on k d2 ps1 ms2 bs))
+      (d4 : Desk) (bs4 : List ℕ) where
+    abbrev start : State P
+    start = new ps ms bs
 
-    module _ (s0 : State P) (begins : s0 ≡ new ps ms bs) where
-      pub after-load : (s1 : State P) (r : Answer) → step k s0 (load m q file) ≡ outcome s1 r → Whole ≡ On s1 r (split t) (cut ∷ close ∷ [])
-      after-load s1 r is = ap (λ s. onward k s (load m q file) (split t ∷ cut ∷ close ∷ [])) (sym begins) ∙ next s0 s1 r (load m q file) (split t) (cut ∷ close ∷ []) is
+    abbrev end : State P
+    end = State1 d4 ps1 ms2 bs4
 
-      module _ (s1 : State P) (loads_to : ℕ) (loads : step k s0 (load m q file) ≡ outcome s1 (one loads_to)) where
-        pub after-split : (s2 : State P) (r : Answer) → step k s1 (split t) ≡ outcome s2 r → Whole ≡ On s2 r cut (close ∷ [])
-        after-split s2 r is = after-load s1 (one loads_to) loads ∙ next s1 s2 r (split t) cut (close ∷ []) is
+    module _ (n4 : ℕ) (closes : ◌≡◌ {A = Done ℕ (List ℕ)} (Ok n4, d4, bs4) (close_on d3 bs3)) where
+      runs : run k start Calls ≡ end
+      runs =
+          ap (λ done. ran (split t ∷ cut ∷ close ∷ []) (on_points start done)) (sym loads)
+          ∙ ap (λ done. ran (cut ∷ close ∷ []) (on_marks (State1 d1 ps1 ms bs) done)) (sym splits)
+          ∙ ap (λ done. ran (close ∷ []) (on_program (State1 d2 ps1 ms2 bs) done)) (sym cuts)
+          ∙ ap (λ done. ran [] (on_program (State1 d3 ps1 ms2 bs3) done)) (sym closes)
 
-        module _ (s2 : State P) (kept waits : ℕ) (splits : step k s1 (split t) ≡ outcome s2 (two kept waits)) where
-          pub after-cut : (s3 : State P) (r : Answer) → step k s2 cut ≡ outcome s3 r → Whole ≡ On s3 r close []
-          after-cut s3 r is = after-split s2 (two kept waits) splits ∙ next s2 s3 r cut close [] is
+      accepts : accepted k start Calls ≡ Calls
+      accepts =
+          ap (λ done. adds (load m q file) (split t ∷ cut ∷ close ∷ []) (on_points start done)) (sym loads)
+          ∙ ap (λ done. load m q file ∷ adds (split t) (cut ∷ close ∷ []) (on_marks (State1 d1 ps1 ms bs) done)) (sym splits)
+          ∙ ap (λ done. load m q file ∷ split t ∷ adds cut (close ∷ []) (on_program (State1 d2 ps1 ms2 bs) done)) (sym cuts)
+          ∙ ap (λ done. load m q file ∷ split t ∷ cut ∷ adds close [] (on_program (State1 d3 ps1 ms2 bs3) done)) (sym closes)
 
-          module _ (s3 : State P) (cuts_to : ℕ) (cuts : step k s2 cut ≡ outcome s3 (one cuts_to)) (s4 : State P) where
-            pub after-close : (r : Answer) → step k s3 close ≡ outcome s4 r → Whole ≡ sight r s4.points s4.marks s4.program
-            after-close r is = after-cut s3 (one cuts_to) cuts ∙ ap (λ (o : Outcome P). seen o) is
-
-            runs : (closes_to : ℕ) → step k s3 close ≡ outcome s4 (one closes_to) → run k s0 Calls ≡ s4
-            runs closes_to is =
-                ap (λ (o : Outcome P). run k o.after (split t ∷ cut ∷ close ∷ [])) loads ∙ ap (λ (o : Outcome P). run k o.after (cut ∷ close ∷ [])) splits
-                ∙ ap (λ (o : Outcome P). run k o.after (close ∷ [])) cuts ∙ ap (λ (o : Outcome P). o.after) is
-
-            accepts : (closes_to : ℕ) → step k s3 close ≡ outcome s4 (one closes_to) → accepted k s0 Calls ≡ Calls
-            accepts closes_to is =
-                let adds : Call → List Call → Outcome P → List Call = λ c cs o. noted k c o.answer (accepted k o.after cs) in
-                ap (adds (load m q file) (split t ∷ cut ∷ close ∷ [])) loads ∙ ap (λ o. load m q file ∷ adds (split t) (cut ∷ close ∷ []) o) splits
-                ∙ ap (λ o. load m q file ∷ split t ∷ adds cut (close ∷ []) o) cuts ∙ ap (λ o. load m q file ∷ split t ∷ cut ∷ adds close [] o) is
-
-            -- a panel that all four calls accept is placed as the law says
-            pub placed : NoRunMisplacesAPanel k → (r : Result ℕ Refusal) → step k s3 close ≡ outcome s4 (counted r) → IfOk r (λ n. MisplacesNone k Calls (take n s4.program))
-            placed law (Err e) is = tt
-            placed law (Ok n) is =
-                let Fine : List Call → ℕ → List ℕ → Type 0 = λ calls size program. MisplacesNone k calls (take size program) in
-                let end : run k (new ps ms bs) Calls ≡ s4 = ap (λ s. run k s Calls) (sym begins) ∙ runs n is in
-                let all : accepted k (new ps ms bs) Calls ≡ Calls = ap (λ s. accepted k s Calls) (sym begins) ∙ accepts n is in
-                let tells : s4.size ≡ n = close-tells s3 s4 n s3.stage is in
-                subst (λ (size : ℕ). Fine Calls size s4.program) tells
-                (subst (λ (s : State P). Fine Calls s.size s.program) end
-                (subst (λ (calls : List Call). Fine calls (run k (new ps ms bs) Calls).size (run k (new ps ms bs) Calls).program) all (law ps ms bs Calls)))
+    pub placed : NoRunMisplacesAPanel k → (r : Result ℕ Refusal) → ◌≡◌ {A = Done ℕ (List ℕ)} (r, d4, bs4) (close_on d3 bs3) → IfOk r (λ n. MisplacesNone k Calls (take n bs4))
+    placed law (Err e) closes = tt
+    placed law (Ok n) closes =
+        let Fine : List Call → ℕ → List ℕ → Type 0 = λ calls size program. MisplacesNone k calls (take size program) in
+        subst (λ (size : ℕ). Fine Calls size bs4) (close-tells d3 d4 bs3 bs4 n (opened d3.stage) closes)
+        (subst (λ (s : State P). Fine Calls s.desk.size s.program) (runs n closes)
+        (subst (λ (calls : List Call). Fine calls (run k start Calls).desk.size (run k start Calls).program) (accepts n closes) (law ps ms bs Calls)))

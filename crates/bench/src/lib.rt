@@ -2,14 +2,13 @@
 #![tactic(auto)]
 
 ghost use Rattle.std.specs.Prelude.{◌≡◌, ◌≤◌, [], ◌∷◌, length, take, IfOk};
-ghost use Rattle.law.specs.Calls.{new as untouched, load as Load, split as Split, cut as Cut, close as Close};
+ghost use Rattle.law.specs.Calls.{new as untouched, load as Load, split as Split, cut as Cut, close as Close, told_as, Length};
 ghost use Rattle.law.specs.Law.{MisplacesNone, NoRunMisplacesAPanel};
-ghost use Rattle.bench.specs.States.{counted};
-ghost use Rattle.bench.specs.Onward.{sight, onward};
+ghost use Rattle.bench.specs.Onward.{seen, onward};
 
 use kinds::PointKind;
 use law::no_run_misplaces;
-use pack::Packing;
+use pack::Unpacking;
 use predict::Predictor;
 use refusal::Refusal;
 
@@ -19,33 +18,20 @@ pub use bench::Bench;
 
 // Cuts one panel file on a new bench: load, split, cut and close. The first refusal ends it. This call carries the law to
 // the programs that make it.
-pub fn cut_panel<K: PointKind + Copy, P: Predictor, Q: Packing>(
+pub fn cut_panel<K: PointKind + Copy, P: Predictor, Q: Unpacking>(
     file: &[u8],
     tolerance: Option<u32>,
     points: &mut [K],
     marks: &mut [u8],
     program: &mut [u8],
 ) -> Result<usize, Refusal>
-    ensures does { onward K.PointKind.kind (untouched points.old marks.old program.old) (Load P.Predictor.means Q.Packing.means.reading file.now) (Split tolerance ∷ Cut ∷ Close ∷ []) ≡ sight (counted result) points.new marks.new program.new }
-    ensures placed { IfOk result (λ n. MisplacesNone K.PointKind.kind (Load P.Predictor.means Q.Packing.means.reading file.now ∷ Split tolerance ∷ Cut ∷ Close ∷ []) (take n program.new)) }
+    ensures does { onward K.kind (untouched points.old marks.old program.old)
+        (Load P.means Q.reading file.now) (Split tolerance ∷ Cut ∷ Close ∷ [])
+        ≡ seen (told_as Length result) points.new marks.new program.new }
+    ensures placed { let calls = Load P.means Q.reading file.now ∷ Split tolerance ∷ Cut ∷ Close ∷ [] in
+        IfOk result (λ n. MisplacesNone K.kind calls (take n program.new)) }
     ensures within { IfOk result (λ n. n ≤ length program.new) }
-    ensures never { NoRunMisplacesAPanel K.PointKind.kind }
-{
-    no_run_misplaces::<K>();
-    four_calls::<K, P, Q>(file, tolerance, points, marks, program)
-}
-
-// The four calls, on a bench of their own.
-fn four_calls<K: PointKind + Copy, P: Predictor, Q: Packing>(
-    file: &[u8],
-    tolerance: Option<u32>,
-    points: &mut [K],
-    marks: &mut [u8],
-    program: &mut [u8],
-) -> Result<usize, Refusal>
-    ensures does { onward K.PointKind.kind (untouched points.old marks.old program.old) (Load P.Predictor.means Q.Packing.means.reading file.now) (Split tolerance ∷ Cut ∷ Close ∷ []) ≡ sight (counted result) points.new marks.new program.new }
-    ensures placed { IfOk result (λ n. MisplacesNone K.PointKind.kind (Load P.Predictor.means Q.Packing.means.reading file.now ∷ Split tolerance ∷ Cut ∷ Close ∷ []) (take n program.new)) }
-    ensures within { IfOk result (λ n. n ≤ length program.new) }
+    ensures never { NoRunMisplacesAPanel K.kind }
 {
     no_run_misplaces::<K>();
     let mut bench = Bench::<K>::new();

@@ -3,11 +3,12 @@ use Rattle.std.proofs.Common.{◌≡◌, ℕ, suc, ◌+◌, ◌-◌, ◌*◌, �
 use Rattle.std.proofs.lemmas.List.{length-take-le}
 use Rattle.kinds.specs.Kind.{KindMeaning}
 use Rattle.kinds.specs.Vertex.{Vertex, at, told}
-use Rattle.range.specs.declared.range.Range.{Range}
+use Rattle.range.specs.Scale.{Scale}
 use Rattle.range.specs.Scale.{quanta, width}
 use Rattle.seam.specs.Ones.{ones}
 use Rattle.seam.specs.Seam.{all_close_by}
 use Rattle.panel.specs.Panel.{Panel, panel_of}
+use Rattle.panel.proofs.Sound.{all-take}
 use Rattle.panel.specs.Placed.{place_at, vertex, placed}
 use Rattle.std.specs.List.{AllByRecursion}
 use Rattle.std.proofs.ByRecursion.{All-map}
@@ -55,18 +56,18 @@ module _ {P : Type 0} (k : KindMeaning P) (w : Cut) (x : Panel) (meant : Meant k
   is = through-is k (must_keep k w.tolerance x) some-kept
 
   -- a stored coordinate lies within half a quantum and half a step of where it is placed
-  close : (gs : List Range) (design : List P) (s : Stored k w.panel gs design) → x ≡ panel_of k gs design → (i j : ℕ) → i < length design → j < k.axes →
+  close : (gs : List Scale) (design : List P) (s : Stored k w.panel gs design) → x ≡ panel_of k gs design → (i j : ℕ) → i < length design → j < k.axes →
       2 * quanta (scale_on gs j) * nat_abs (at (told k design) i j -ℤ pos 16 *ℤ at (told k (placed k x)) i j) ≤ width (scale_on gs j) + 16 * quanta (scale_on gs j)
   close gs design s same i j h l =
-      let few : List Range = take k.axes gs in
+      let few : List Scale = take k.axes gs in
       let size : length few ≡ k.axes = length-take-le k.axes gs (omega (arith, k.few_axes, s.three)) in
       let count : x.count ≡ length design = ap (λ (y : Panel). y.count) same in
       let placed_at : at (told k (placed k x)) i j ≡ place_at (panel_of k gs design).axes j i =
       ap (λ (v : Vertex). v j) (at-placed k x i (omega arith)) ∙ vertex-tells k x sized i j ∙ ap (λ (y : Panel). place_at y.axes j i) same in
       let zero-on : 0 + j ≡ j = omega arith in
-      rw (placed_at, ← scale-take k.axes gs j l) (rw zero-on at (place-close k design few 0 j i (omega arith) h (all_in k w.panel gs design s)))
+      rw (placed_at, ← scale-take k.axes gs j l) (rw zero-on at (place-close k design few 0 j i (all-take k.axes gs s.ranges) (omega arith) h (all_in k w.panel gs design s)))
 
-  by-stroke : (gs : List Range) (design : List P) → Stored k w.panel gs design → (i : ℕ) → i < length design →
+  by-stroke : (gs : List Scale) (design : List P) → Stored k w.panel gs design → (i : ℕ) → i < length design →
       ByStroke k w.tolerance gs design chain_of i (stroke k w.tolerance x many i)
   by-stroke gs design s i h =
       let back = trip k w.panel gs design s in

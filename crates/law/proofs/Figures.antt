@@ -5,7 +5,7 @@ use Rattle.std.specs.Int.{int_wrap}
 use Rattle.predict.specs.Residues.{residues_from, values_from}
 use Rattle.pack.specs.Plain as P
 use Rattle.pack.specs.Fielded as F
-use Rattle.range.specs.declared.range.Range.{Range}
+use Rattle.range.specs.Scale.{Scale, IsRange}
 use Rattle.range.specs.Units.{good_end, units_of, neg_zero, plain}
 use Rattle.range.specs.Scale.{code_in, place_in}
 use Rattle.panel.specs.Panel.{inside_on, codes_on, axes_from, inside_from}
@@ -13,19 +13,19 @@ use Rattle.panel.specs.Written.{axis_bytes, written}
 use Rattle.panel.specs.Judging.{all_codes, body_at, axis_at, axes_at, judged}
 use Rattle.panel.specs.Placed.{place_at, placed}
 use Rattle.seam.specs.Split.{grow, tree}
-use Rattle.seam.specs.Weight.{weight, limit}
+use Rattle.seam.specs.Weight.{from_to, m_of, weights_from, weight, limit}
 use Rattle.seam.specs.Seam.{pick, tree_of}
 use Rattle.law.specs.Program.{chain_bytes}
 use Rattle.law.specs.Calls.{drawn}
 use Rattle.law.specs.Figures.{Run}
 
-sixteen : Range
-unfolding good_end units_of neg_zero fits
-sixteen = record {
-  bits = 4;
-  lower = fin false 0 (pos 0);
-  upper = fin false 1 (pos 4);
-  width = (lit≤ tt, lit≤ tt);
+sixteen : Scale
+sixteen = record { bits = 4; lower = fin false 0 (pos 0); upper = fin false 1 (pos 4) }
+
+sixteen-is : IsRange sixteen
+unfolding sixteen good_end units_of neg_zero fits
+sixteen-is = record {
+  wide = (lit≤ tt, lit≤ tt);
   low = (refl, refl);
   high = (refl, refl);
   ordered = record { lt = tt };
@@ -33,12 +33,12 @@ sixteen = record {
 }
 
 pub run : Run
-unfolding sixteen of_bits to_bits good_end units_of neg_zero plain fits code_in place_in int_wrap residues_from values_from inside_on codes_on axes_from inside_from axis_bytes written all_codes body_at axis_at axes_at judged place_at placed grow tree weight limit pick tree_of chain_bytes drawn
+unfolding sixteen of_bits to_bits good_end units_of neg_zero plain fits code_in place_in int_wrap residues_from values_from inside_on codes_on axes_from inside_from axis_bytes written all_codes body_at axis_at axes_at judged place_at placed grow tree from_to m_of weights_from weight limit pick tree_of chain_bytes drawn
 run = record {
   written = refl;
   left = refl;
   went = refl;
   ranges = sixteen ∷ sixteen ∷ sixteen ∷ [];
-  first = record { three = refl; packing = P.plain; same = refl; room = 2; before = replicate 60 0; size = 55; after = _; stores = refl; file = refl };
-  second = record { three = refl; packing = F.fielded; same = refl; room = 5; before = replicate 60 0; size = 56; after = _; stores = refl; file = refl };
+  first = record { three = refl; ranges = (sixteen-is, (sixteen-is, (sixteen-is, tt))); packing = P.plain; same = refl; room = 2; before = replicate 60 0; size = 55; after = _; stores = refl; file = refl };
+  second = record { three = refl; ranges = (sixteen-is, (sixteen-is, (sixteen-is, tt))); packing = F.fielded; same = refl; room = 5; before = replicate 60 0; size = 56; after = _; stores = refl; file = refl };
 }

@@ -1,6 +1,7 @@
 -- What an accepted file is known by.
 use Rattle.std.proofs.Common.{◌≡◌, ℕ, zero, suc, ◌≤◌, Bool, true, false, cond, eqb, ltb, List, [], ◌∷◌, length, get_or, drop, Ok, Err, Result, sym, refl, ap, ◌∙◌, subst, arith}
-use Rattle.std.proofs.lemmas.Bool.{ltb-false, cond-true, cond-false}
+use Rattle.std.proofs.lemmas.Bool.{ltb-false, cond-true, cond-false, false≢true}
+use Rattle.std.specs.Prelude.{is_ok}
 use Rattle.refusal.specs.declared.Refusal.{Refusal}
 use Rattle.predict.specs.Predictor.{PredictorMeaning}
 use Rattle.pack.specs.Packing.{ReadingMeaning}
@@ -10,26 +11,26 @@ use Rattle.panel.specs.Judging.{and_then, counted, head_at, end_at, Rest, axis_a
 
 and-then-ok : {X Y E : Type 0} (r : Result X E) (f : X → Result Y E) (y : Y) → and_then r f ≡ Ok y → (x : X) × (r ≡ Ok x) × (f x ≡ Ok y)
 and-then-ok (Ok x) f y e = (x, refl, e)
-and-then-ok (Err z) f y e = let n : ◌≡◌ {A = ℕ} 0 1 = cc in absurd (omega arith)
+and-then-ok (Err z) f y e = absurd (false≢true (ap is_ok e))
 
 then_ok : {X E : Type 0} (b : Bool) (r : Result X E) (z : E) (y : X) → cond b r (Err z) ≡ Ok y → (b ≡ true) × (r ≡ Ok y)
 then_ok true r z y e = (refl, e)
-then_ok false r z y e = let n : ◌≡◌ {A = ℕ} 0 1 = cc in absurd (omega arith)
+then_ok false r z y e = absurd (false≢true (ap is_ok e))
 
 else-ok : {X E : Type 0} (b : Bool) (r : Result X E) (z : E) (y : X) → cond b (Err z) r ≡ Ok y → (b ≡ false) × (r ≡ Ok y)
-else-ok true r z y e = let n : ◌≡◌ {A = ℕ} 0 1 = cc in absurd (omega arith)
+else-ok true r z y e = absurd (false≢true (ap is_ok e))
 else-ok false r z y e = (refl, e)
 
-counted-ok : (room w n : ℕ) → counted room w ≡ Ok n → (2 ≤ n) × (counted 4096 w ≡ Ok n)
+counted-ok : (room w n : ℕ) → counted room w ≡ Ok n → (2 ≤ n) × (n ≤ 4096) × (counted 4096 w ≡ Ok n)
 counted-ok room w n e =
     let a = else-ok (ltb w 2) _ _ _ e in
     let b = else-ok (ltb 4096 w) _ _ _ a.1 in
     let c = else-ok (ltb room w) _ _ _ b.1 in
     let h = c.1 in
     let same : w ≡ n = cc in
-    (omega (arith, ltb-false w 2 a.0), cond-false (ltb w 2) _ _ a.0 ∙ cond-false (ltb 4096 w) _ _ b.0 ∙ cond-false (ltb 4096 w) _ _ b.0 ∙ c.1)
+    (omega (arith, ltb-false w 2 a.0), omega (arith, ltb-false 4096 w b.0), cond-false (ltb w 2) _ _ a.0 ∙ cond-false (ltb 4096 w) _ _ b.0 ∙ cond-false (ltb 4096 w) _ _ b.0 ∙ c.1)
 
-head_ok : (axes predictor packing room n : ℕ) (file : List ℕ) → head_at axes predictor packing room file ≡ Ok n → (2 ≤ n) × (head_at axes predictor packing 4096 file ≡ Ok n)
+head_ok : (axes predictor packing room n : ℕ) (file : List ℕ) → head_at axes predictor packing room file ≡ Ok n → (2 ≤ n) × (n ≤ 4096) × (head_at axes predictor packing 4096 file ≡ Ok n)
 head_ok axes predictor packing room n file e =
     let t1 : Bool = ltb (length file) 8 in
     let t2 : Bool = eqb (get_or file 0 0) 0x4E in
@@ -42,12 +43,12 @@ head_ok axes predictor packing room n file e =
     let d = then_ok t4 _ _ _ c.1 in
     let f = then_ok t5 _ _ _ d.1 in
     let g = counted-ok room (word file 4) n f.1 in
-    (g.0, cond-false t1 _ _ a.0 ∙ cond-true t2 _ _ b.0 ∙ cond-true t3 _ _ c.0 ∙ cond-true t4 _ _ d.0 ∙ cond-true t5 _ _ f.0 ∙ g.1)
+    (g.0, g.1, cond-false t1 _ _ a.0 ∙ cond-true t2 _ _ b.0 ∙ cond-true t3 _ _ c.0 ∙ cond-true t4 _ _ d.0 ∙ cond-true t5 _ _ f.0 ∙ g.2)
 
 module _ (m : PredictorMeaning) (q : ReadingMeaning) where
   more-ok : (n : ℕ) (x : Axis) (r : Result (List Axis × Rest) Refusal) (y : List Axis × Rest) → more m q n x r ≡ Ok y → (z : List Axis × Rest) × (r ≡ Ok z) × (length y.0 ≡ suc (length z.0))
   more-ok n x (Ok z) y e = let same : ◌≡◌ {A = List Axis × Rest} (x ∷ z.0, z.1) y = cc in (z, refl, ap (λ (p : List Axis × Rest). length p.0) (sym same))
-  more-ok n x (Err z) y e = let n : ◌≡◌ {A = ℕ} 0 1 = cc in absurd (omega arith)
+  more-ok n x (Err z) y e = absurd (false≢true (ap is_ok e))
 
   axes-sized : (n a : ℕ) (r : Rest) (y : List Axis × Rest) → axes_at m q n a r ≡ Ok y → length y.0 ≡ a
   unfolding axes_at
@@ -58,9 +59,10 @@ module _ (m : PredictorMeaning) (q : ReadingMeaning) where
       h.2 ∙ ap suc (axes-sized n a g.0.1 h.0 h.1)
 
   module _ (axes room : ℕ) (file : List ℕ) (x : Panel) (e : judged m q axes room file ≡ Ok x) where
-    -- two vertices or more, as many axes as the kind has, and the same panel where there is room for any
+    -- 2 to 4,096 vertices, as many axes as the kind has, and the same panel where there is room for any
     pub record Known : Type 0 where
       pub some : 2 ≤ x.count
+      pub few : x.count ≤ 4096
       pub sized : length x.axes ≡ axes
       pub anyway : judged m q axes 4096 file ≡ Ok x
 
@@ -74,8 +76,9 @@ module _ (m : PredictorMeaning) (q : ReadingMeaning) where
         let made : record { count = a.0; axes = b.0.0 } ≡ x = let i = c.2 in cc in
         record {
           some = subst (λ (y : Panel). 2 ≤ y.count) made h.0;
+          few = subst (λ (y : Panel). y.count ≤ 4096) made h.1;
           sized = subst (λ (y : Panel). length y.axes ≡ axes) made (axes-sized a.0 axes (drop 8 file, 8) b.0 b.1);
           anyway =
               ap (λ (r : Result ℕ Refusal). and_then r (λ n. and_then (axes_at m q n axes (drop 8 file, 8)) (λ x. and_then (end_at x.1.1 x.1.0) (λ _. Ok (record { count = n; axes = x.0 })))))
-              h.1 ∙ a.2;
+              h.2 ∙ a.2;
         }

@@ -1,12 +1,12 @@
 -- A program is read in one way at most.
-use Rattle.std.proofs.Common.{◌≡◌, ℕ, ◌*◌, Bool, true, false, cond, List, [], ◌∷◌, ◌++◌, length, ℤ, sym, refl, ap, ◌∙◌, ap₂, arith, w32, to_z, of_z}
+use Rattle.std.proofs.Common.{◌≡◌, ℕ, ◌*◌, Bool, true, false, cond, List, [], ◌∷◌, ◌++◌, length, get_or, ℤ, sym, refl, ap, ◌∙◌, ap₂, arith, w32, to_z, of_z}
 use mir.Facts.{Fits-of_z}
 use Rattle.std.specs.List.{flat_map, AllByRecursion}
 use Rattle.std.proofs.lemmas.List.{append_assoc}
 use Rattle.std.proofs.lemmas.Int.{to_z-of_z}
 use Rattle.predict.specs.Wrap.{Word}
 use Rattle.panel.specs.Words.{le32, word}
-use Rattle.panel.proofs.PieceBack.{four}
+use Rattle.std.proofs.lemmas.Nat.{from_le_bytes-to_le_bytes_4}
 use Rattle.law.specs.Program.{Chain, spelled, stroke, finish, chain_bytes, program_bytes}
 use Rattle.law.specs.Law.{Steps, Whole, ReadsOnce}
 
@@ -27,7 +27,7 @@ length-spelled (z ∷ zs) = omega (arith, length-spelled zs)
 
 word-once : (z w : ℤ) → Word z → Word w → le32 (of_z w32 z) ≡ le32 (of_z w32 w) → z ≡ w
 word-once z w a b e =
-    let f : of_z w32 z ≡ of_z w32 w = sym (four (of_z w32 z) (Fits-of_z a).fits) ∙ ap (λ (bs : List ℕ). word bs 0) e ∙ four (of_z w32 w) (Fits-of_z b).fits in
+    let f : of_z w32 z ≡ of_z w32 w = sym (from_le_bytes-to_le_bytes_4 (of_z w32 z) (Fits-of_z a).fits) ∙ ap (λ (bs : List ℕ). word bs 0) e ∙ from_le_bytes-to_le_bytes_4 (of_z w32 w) (Fits-of_z b).fits in
     sym (to_z-of_z w32 z a) ∙ ap (to_z w32) f ∙ to_z-of_z w32 w b
 
 spelled-once : (zs ws : List ℤ) → length zs ≡ length ws → AllByRecursion Word zs → AllByRecursion Word ws → spelled zs ≡ spelled ws → zs ≡ ws
@@ -50,8 +50,8 @@ module _ (axes : ℕ) where
 
   strokes-once : (cs bs : List (List ℤ)) (us vs : List ℕ) → AllByRecursion (Steps axes) cs → AllByRecursion (Steps axes) bs → stroke_bytes cs us ≡ stroke_bytes bs vs → (cs ≡ bs) × (us ≡ vs)
   strokes-once [] [] us vs a b e = (refl, cc)
-  strokes-once [] (y ∷ bs) us vs a b e = let z : ◌≡◌ {A = ℕ} 0x55 0x4B = cc in absurd (omega arith)
-  strokes-once (x ∷ cs) [] us vs a b e = let z : ◌≡◌ {A = ℕ} 0x4B 0x55 = cc in absurd (omega arith)
+  strokes-once [] (y ∷ bs) us vs a b e = absurd (omega (arith, ap (λ (l : List ℕ). get_or l 0 0) e))
+  strokes-once (x ∷ cs) [] us vs a b e = absurd (omega (arith, ap (λ (l : List ℕ). get_or l 0 0) e))
   strokes-once (x ∷ cs) (y ∷ bs) us vs a b e =
       let f : spelled x ++ stroke_bytes cs us ≡ spelled y ++ stroke_bytes bs vs =
       sym (append_assoc (spelled x) (flat_map stroke cs) (0x55 ∷ us)) ∙ tail ∙ append_assoc (spelled y) (flat_map stroke bs) (0x55 ∷ vs) in
@@ -81,8 +81,8 @@ module _ (axes : ℕ) where
   finish-once : (e f : Bool) → cond {A = List ℕ} e finish [] ≡ cond {A = List ℕ} f finish [] → e ≡ f
   finish-once true true h = refl
   finish-once false false h = refl
-  finish-once true false h = let z : ◌≡◌ {A = ℕ} 0 1 = cc in absurd (omega arith)
-  finish-once false true h = let z : ◌≡◌ {A = ℕ} 0 1 = cc in absurd (omega arith)
+  finish-once true false h = cc
+  finish-once false true h = cc
 
   no-chain : (e : Bool) (d : Chain) (us : List ℕ) → cond e finish [] ≡ chain_bytes d ++ us → ⊥
   no-chain true d us h = let f = h ∙ chain-spread d us in let z : ◌≡◌ {A = ℕ} 0x45 0x54 = cc in omega arith

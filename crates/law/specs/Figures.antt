@@ -2,7 +2,7 @@
 use Rattle.std.specs.Prelude.{◌≡◌, ℕ, List, [], ◌∷◌, take, replicate, pos, Some, None}
 use Rattle.kinds.specs.Models.{flat}
 use Rattle.kinds.specs.declared.Flat.{Flat}
-use Rattle.range.specs.declared.range.Range.{Range}
+use Rattle.range.specs.Scale.{Scale}
 use Rattle.range.specs.Figures as range
 use Rattle.predict.specs.Models.{lag1}
 use Rattle.predict.specs.Figures as predict
@@ -61,11 +61,11 @@ program =
 
 -- what the calls lead to, and that store writes two files as they were loaded
 pub record Run : Type 0 where
-  pub written : take (run flat bench calls).size (run flat bench calls).program ≡ program
+  pub written : take (run flat bench calls).desk.size (run flat bench calls).program ≡ program
   pub left : (run flat bench calls).marks ≡ 1 ∷ 0 ∷ 1 ∷ 1 ∷ 1 ∷ 9 ∷ []
   pub went : accepted flat bench calls ≡
       load lag1 plain.reading straight ∷ split None ∷ cut ∷ load lag1 fielded.reading hook ∷ split None ∷ cut ∷ close ∷ []
-  pub ranges : List Range
+  pub ranges : List Scale
   pub first : Stored flat (record { predictor = lag1; packing = plain.reading; file = straight }) ranges (point 0 0 ∷ point 4096 2000 ∷ [])
   pub second : Stored flat (record { predictor = lag1; packing = fielded.reading; file = hook }) ranges
       (point 0 0 ∷ point 2000 0 ∷ point 4096 0 ∷ point 4096 4096 ∷ point 0 4096 ∷ [])

@@ -6,13 +6,12 @@ use Rattle.kinds.specs.Kind.{KindMeaning}
 use Rattle.kinds.specs.Vertex.{Vertex, at, told}
 use Rattle.predict.specs.Wrap.{Word}
 use Rattle.pack.specs.Packing.{PackingMeaning}
-use Rattle.range.specs.declared.range.Range.{Range}
-use Rattle.range.specs.Scale.{Scale, scale_of, quanta, width}
+use Rattle.range.specs.Scale.{Scale, IsRange, quanta, width}
 use Rattle.panel.specs.Panel.{Panel}
 use Rattle.panel.specs.Judging.{judged}
 use Rattle.panel.specs.Placed.{vertex, placed}
 use Rattle.panel.specs.Stored.{Outcome as StoreOutcome, store_of}
-use Rattle.seam.specs.Weight.{span_of}
+use Rattle.seam.specs.Weight.{from_to, m_of}
 use Rattle.seam.specs.Split.{marked}
 use Rattle.seam.specs.Seam.{ends, tree_of}
 use Rattle.law.specs.Program.{Chain, steps, program_bytes}
@@ -56,15 +55,15 @@ on zs j = slice_index_or zs j (pos 0)
 
 -- m of a stroke: the greatest |d|, or 1
 abbrev pub greatest : List ℤ → List ℤ → ℕ
-greatest A B = span_of (on B 0 -ℤ on A 0) (on B 1 -ℤ on A 1) (on B 2 -ℤ on A 2)
+greatest A B = m_of (from_to (on A) (on B))
 
 -- the scale of axis j; past the last, one that is never asked for
-abbrev pub scale_on : List Range → ℕ → Scale
-scale_on gs j = slice_index_or (map scale_of gs) j (record { bits = 0; lower = nan; upper = nan })
+abbrev pub scale_on : List Scale → ℕ → Scale
+scale_on gs j = slice_index_or gs j (record { bits = 0; lower = nan; upper = nan })
 
 -- v is off the stroke from A to B, on each axis, by at most half a quantum, half a step and the tolerance together:
 -- with one k in 0..m, 2 M |m (v - 16 A) - 16 k d| ≤ m (D + 16 M + 32 M t)
-pub record Beside (axes t : ℕ) (gs : List Range) (v : Vertex) (A B : List ℤ) : Type 0 where
+pub record Beside (axes t : ℕ) (gs : List Scale) (v : Vertex) (A B : List ℤ) : Type 0 where
   pub along : ℕ
   pub short : along ≤ greatest A B
   pub off : (j : ℕ) → j < axes →
@@ -91,8 +90,9 @@ module _ {P : Type 0} (k : KindMeaning P) where
   must_keep t x = kept (marks_of t x) (placed k x)
 
   -- store, with that load's predictor and packing, writes these design points by these ranges as exactly that load's file
-  pub record Stored (l : Load) (gs : List Range) (design : List P) : Type 0 where
+  pub record Stored (l : Load) (gs : List Scale) (design : List P) : Type 0 where
     pub three : length gs ≡ 3
+    pub ranges : AllByRecursion IsRange gs
     pub packing : PackingMeaning
     pub same : packing.reading ≡ l.packing
     pub room : ℕ
@@ -103,7 +103,7 @@ module _ {P : Type 0} (k : KindMeaning P) where
     pub file : take size after ≡ l.file
 
   -- stroke number n of the chain is one that vertex i of the design is off by little
-  pub record ByStroke (t : ℕ) (gs : List Range) (design : List P) (c : Chain) (i n : ℕ) : Type 0 where
+  pub record ByStroke (t : ℕ) (gs : List Scale) (design : List P) (c : Chain) (i n : ℕ) : Type 0 where
     pub real : n < length c.strokes
     pub beside : Beside k.axes t gs (at (told k design) i) (begin_of c n) (end_of c n)
 
@@ -119,7 +119,7 @@ module _ {P : Type 0} (k : KindMeaning P) where
 
   -- every design vertex that store wrote as the chain's panel is off a stroke of the chain by little
   abbrev pub Near : Cut → Chain → Type 0
-  Near w c = (gs : List Range) (design : List P) → Stored w.panel gs design →
+  Near w c = (gs : List Scale) (design : List P) → Stored w.panel gs design →
       (i : ℕ) → i < length design → (n : ℕ) × ByStroke w.tolerance gs design c i n
 
   -- the chain begins at its panel's first vertex as placed and ends at the last, and such strokes never go back along the vertices
@@ -128,7 +128,7 @@ module _ {P : Type 0} (k : KindMeaning P) where
     pub meant : Meant w panel
     pub begins : c.from ≡ steps k (vertex k panel 0)
     pub ends : end_of c (length c.strokes - 1) ≡ steps k (vertex k panel (panel.count - 1))
-    pub never_back : (gs : List Range) (design : List P) → Stored w.panel gs design →
+    pub never_back : (gs : List Scale) (design : List P) → Stored w.panel gs design →
         (stroke : ℕ → ℕ) × ((i : ℕ) → i < length design → ByStroke w.tolerance gs design c i (stroke i)) × ((i j : ℕ) → i ≤ j → j < length design → stroke i ≤ stroke j)
 
   -- A program, after these accepted calls, misplaces no panel:
@@ -147,4 +147,4 @@ module _ {P : Type 0} (k : KindMeaning P) where
   NoRunMisplacesAPanel =
       (points : List P) (marks program : List ℕ) (calls : List Call) →
       let s = run k (new points marks program) calls in
-      MisplacesNone (accepted k (new points marks program) calls) (take s.size s.program)
+      MisplacesNone (accepted k (new points marks program) calls) (take s.desk.size s.program)

@@ -1,11 +1,12 @@
-// The knife, raised or lowered. Each condition is a type that is moved: a call takes it and gives the next one, so none
-// is used twice, and none is let go but by a call that says so.
+// The knife, raised or lowered. Its state is a type parameter, and it is moved: a call takes the knife and gives it back in
+// the next state, so none is used twice, and none is let go but by a call that says so.
 ghost use Rattle.std.specs.Prelude.{◌≡◌, ◌+◌, ◌*◌, ◌≤◌, [], ◌∷◌, length, nat_le};
-ghost use Rattle.law.specs.Program.{spelled, steps, travel as Travel, lower as Lower, stroke as Stroke, raise as Raise, finish as Finish};
-ghost use Rattle.bench.specs.Knife.{Writes, raised, lowered};
+ghost use Rattle.law.specs.Program.{spelled, steps, travel as travel_bytes, lower as lower_bytes, stroke as stroke_bytes, raise as raise_bytes, finish as finish_bytes};
+ghost use Rattle.bench.specs.Knife.{answered, written};
 
 use kinds::PointKind;
 use refusal::Why;
+use std::marker::{Model, PhantomData};
 
 // The letters of the commands.
 const TRAVEL: u8 = b'T';
@@ -18,96 +19,151 @@ const RAISE: u8 = b'U';
 
 const FINISH: u8 = b'E';
 
-// Up, at a program length: it may travel, be lowered, or finish.
-pub struct Raised {
+// Up: the knife may travel, be lowered, or finish.
+pub struct Raised;
+
+// Down: it may stroke or be raised.
+pub struct Lowered;
+
+// A knife in a state, at a program length.
+pub struct Knife<S> {
     at: usize,
+    state: PhantomData<S>,
 }
 
-// Down, at a program length: it may stroke or be raised.
-pub struct Lowered {
-    at: usize,
+impl<S> Model for Knife<S> {
+    ghost use Rattle.std.specs.Prelude.{ℕ};
+
+    ghost Value = { ℕ };
+
+    ghost view = { λ k. k.at };
 }
 
-impl Raised {
+impl Knife<Raised> {
     // A raised knife at a program length.
-    pub(super) fn start(at: usize) -> Raised
-        ensures { result ≡ raised at }
+    pub(super) fn start(at: usize) -> Knife<Raised>
+        ensures { result ≡ at }
     {
-        Raised { at }
+        Knife {
+            at,
+            state: PhantomData,
+        }
     }
 
     // Lets the raised knife go, and tells the program length.
     pub(super) fn rest(self) -> usize
-        ensures { result ≡ self.at }
+        ensures { result ≡ self }
     {
-        let Raised { at } = self;
+        let Knife { at, state: _ } = self;
         at
     }
 
     // T: to a point, without cutting.
-    pub fn travel<K: PointKind>(self, program: &mut [u8], to: &K) -> Result<Raised, (Why, Raised)>
-        ensures { Writes program.old program.new self.at (Travel (steps K.PointKind.kind to.now)) raised self result }
+    pub fn travel<K: PointKind>(
+        self,
+        program: &mut [u8],
+        to: &K,
+    ) -> Result<Knife<Raised>, (Why, Knife<Raised>)>
+        ensures answer { result ≡ answered program.old self (travel_bytes (steps K.kind to.now)) }
+        ensures program { program.new ≡ written program.old self (travel_bytes (steps K.kind to.now)) }
     {
-        let Raised { at } = self;
-        match write_move(program, at, TRAVEL, to) {
-            Ok(at) => Ok(Raised { at }),
-            Err((why, at)) => Err((why, Raised { at })),
-        }
+        self.write_move(program, TRAVEL, to)
     }
 
     // D
-    pub fn lower(self, program: &mut [u8]) -> Result<Lowered, (Why, Raised)>
-        ensures { Writes program.old program.new self.at Lower lowered self result }
+    pub fn lower(self, program: &mut [u8]) -> Result<Knife<Lowered>, (Why, Knife<Raised>)>
+        ensures answer { result ≡ answered program.old self lower_bytes }
+        ensures program { program.new ≡ written program.old self lower_bytes }
     {
-        let Raised { at } = self;
-        match write_letter(program, at, LOWER) {
-            Ok(at) => Ok(Lowered { at }),
-            Err((why, at)) => Err((why, Raised { at })),
-        }
+        self.write_letter(program, LOWER)
     }
 
     // E: the knife ends, and the program length alone is left.
-    pub fn finish(self, program: &mut [u8]) -> Result<usize, (Why, Raised)>
-        ensures { Writes program.old program.new self.at Finish (λ n. n) self result }
+    pub fn finish(self, program: &mut [u8]) -> Result<usize, (Why, Knife<Raised>)>
+        ensures answer { result ≡ answered program.old self finish_bytes }
+        ensures program { program.new ≡ written program.old self finish_bytes }
     {
-        let Raised { at } = self;
-        match write_letter(program, at, FINISH) {
-            Ok(at) => Ok(at),
-            Err((why, at)) => Err((why, Raised { at })),
-        }
+        let knife: Knife<Raised> = self.write_letter(program, FINISH)?;
+        Ok(knife.rest())
     }
 }
 
-impl Lowered {
+impl Knife<Lowered> {
     // K: to a point, cutting.
-    pub fn stroke<K: PointKind>(self, program: &mut [u8], to: &K) -> Result<Lowered, (Why, Lowered)>
-        ensures { Writes program.old program.new self.at (Stroke (steps K.PointKind.kind to.now)) lowered self result }
+    pub fn stroke<K: PointKind>(
+        self,
+        program: &mut [u8],
+        to: &K,
+    ) -> Result<Knife<Lowered>, (Why, Knife<Lowered>)>
+        ensures answer { result ≡ answered program.old self (stroke_bytes (steps K.kind to.now)) }
+        ensures program { program.new ≡ written program.old self (stroke_bytes (steps K.kind to.now)) }
     {
-        let Lowered { at } = self;
-        match write_move(program, at, STROKE, to) {
-            Ok(at) => Ok(Lowered { at }),
-            Err((why, at)) => Err((why, Lowered { at })),
-        }
+        self.write_move(program, STROKE, to)
     }
 
     // U
-    pub fn raise(self, program: &mut [u8]) -> Result<Raised, (Why, Lowered)>
-        ensures { Writes program.old program.new self.at Raise raised self result }
+    pub fn raise(self, program: &mut [u8]) -> Result<Knife<Raised>, (Why, Knife<Lowered>)>
+        ensures answer { result ≡ answered program.old self raise_bytes }
+        ensures program { program.new ≡ written program.old self raise_bytes }
     {
-        let Lowered { at } = self;
-        match write_letter(program, at, RAISE) {
-            Ok(at) => Ok(Raised { at }),
-            Err((why, at)) => Err((why, Lowered { at })),
+        self.write_letter(program, RAISE)
+    }
+}
+
+// Writing is the same in each state. Where there is room the knife goes on behind the command, in the next state; else
+// nothing is written, and it comes back as it was.
+impl<S> Knife<S> {
+    // A letter alone.
+    fn write_letter<T>(self, program: &mut [u8], letter: u8) -> Result<Knife<T>, (Why, Knife<S>)>
+        ensures answer { result ≡ answered program.old self (letter ∷ []) }
+        ensures program { program.new ≡ written program.old self (letter ∷ []) }
+    {
+        let Knife { at, state } = self;
+        if !has_room(program, at, 1) {
+            return Err((Why::NoSpace, Knife { at, state }));
         }
+        program[at] = letter;
+        Ok(Knife {
+            at: at + 1,
+            state: PhantomData,
+        })
+    }
+
+    // A letter, and the steps of a point: a signed number of four bytes for each axis, the lowest first.
+    #[tactic(auto, using(law::proofs::Drawing::length_steps))]
+    fn write_move<T, K: PointKind>(
+        self,
+        program: &mut [u8],
+        letter: u8,
+        to: &K,
+    ) -> Result<Knife<T>, (Why, Knife<S>)>
+        ensures answer { result ≡ answered program.old self (letter ∷ spelled (steps K.kind to.now)) }
+        ensures program { program.new ≡ written program.old self (letter ∷ spelled (steps K.kind to.now)) }
+    {
+        let Knife { at, state } = self;
+        let need = move_size::<K>();
+        if !has_room(program, at, need) {
+            return Err((Why::NoSpace, Knife { at, state }));
+        }
+        program[at] = letter;
+        for axis in 0..K::AXES {
+            let word = to.coordinate(axis).to_le_bytes();
+            let place = at + 1 + 4 * axis;
+            program[place..place + 4].copy_from_slice(&word);
+        }
+        Ok(Knife {
+            at: at + need,
+            state: PhantomData,
+        })
     }
 }
 
 // The bytes of a travel or a stroke: its letter, and four for each axis.
 pub(super) fn move_size<K: PointKind>() -> usize
-    ensures value { result ≡ 1 + 4 * K.PointKind.kind.axes }
+    ensures value { result ≡ 1 + 4 * K.kind.axes }
     ensures bound { result ≤ 13 }
 {
-    1 + 4 * K::axis_count()
+    1 + 4 * K::AXES
 }
 
 // Whether so many bytes have their place in the program.
@@ -115,37 +171,4 @@ pub(super) fn has_room(program: &[u8], at: usize, need: usize) -> bool
     ensures { result ≡ nat_le (at + need) (length program.now) }
 {
     at <= program.len() && need <= program.len() - at
-}
-
-// A letter alone.
-fn write_letter(program: &mut [u8], at: usize, letter: u8) -> Result<usize, (Why, usize)>
-    ensures { Writes program.old program.new at (letter ∷ []) (λ n. n) at result }
-{
-    if at >= program.len() {
-        return Err((Why::NoSpace, at));
-    }
-    program[at] = letter;
-    Ok(at + 1)
-}
-
-// A letter, and the steps of a point: a signed number of four bytes for each axis, the lowest first.
-fn write_move<K: PointKind>(
-    program: &mut [u8],
-    at: usize,
-    letter: u8,
-    to: &K,
-) -> Result<usize, (Why, usize)>
-    ensures { Writes program.old program.new at (letter ∷ spelled (steps K.PointKind.kind to.now)) (λ n. n) at result }
-{
-    let need = move_size::<K>();
-    if !has_room(program, at, need) {
-        return Err((Why::NoSpace, at));
-    }
-    program[at] = letter;
-    for axis in 0..K::axis_count() {
-        let word = to.coordinate(axis).to_le_bytes();
-        let place = at + 1 + 4 * axis;
-        program[place..place + 4].copy_from_slice(&word);
-    }
-    Ok(at + need)
 }
