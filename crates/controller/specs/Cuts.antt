@@ -1,34 +1,32 @@
 -- What a cut for C answers and leaves in the three lists.
-use Rattle.std.specs.Prelude.{ℕ, cond, List, [], ◌∷◌, Some, None, Option, ◌==◌}
+use Rattle.std.specs.Prelude.{ℕ, cond, List, [], ◌∷◌, Some, None, Option, Ok, Err, ◌==◌}
 use Rattle.refusal.specs.declared.Why.{Why}
 use Rattle.kinds.specs.Kind.{KindMeaning}
 use Rattle.predict.specs.Predictor.{PredictorMeaning}
-use Rattle.pack.specs.Packing.{PackingMeaning}
-use Rattle.law.specs.Calls.{new, load, split, cut, close, one, two, no, Answer as Said}
-use Rattle.bench.specs.Onward.{Sight, onward}
+use Rattle.pack.specs.Packing.{ReadingMeaning}
+use Rattle.law.specs.Calls.{new, load, split, cut, close, Vertices, Kept, Length, Answer as Said}
+use Rattle.bench.specs.Onward.{Seen, seen, onward}
 use Rattle.controller.specs.declared.answer.Answer.{Answer}
 use Rattle.controller.specs.Answers.{refused, written, split_in}
-use Rattle.controller.specs.Pairings.{predictor_at, packing_at, why_numbers}
+use Rattle.pairing.specs.Pairings.{predictor_at, packing_at, why_numbers}
 
--- an answer, and the lists as the caller finds them
-pub record Left (P : Type 0) : Type 0 where
-  pub answer : Answer
-  pub points : List P
-  pub marks : List ℕ
-  pub program : List ℕ
+-- an answer in plain numbers, and the lists as the caller finds them
+abbrev pub Left : Type 0 → Type 0
+Left P = Seen Answer P
 
 -- an answer beside the three lists
 abbrev pub left : {P : Type 0} → Answer → List P → List ℕ → List ℕ → Left P
-left r ps ms bs = record { answer = r; points = ps; marks = ms; program = bs }
+left r ps ms bs = seen r ps ms bs
 
 -- the bench's answer in plain numbers
 abbrev pub plainly : Said → Answer
-plainly (one n) = written n
-plainly (two m n) = split_in m n
-plainly (no e) = refused e.why e.place
+plainly (Ok (Vertices n)) = written n
+plainly (Ok (Kept m n)) = split_in m n
+plainly (Ok (Length n)) = written n
+plainly (Err e) = refused e.why e.place
 
 -- what is seen of the bench, in plain numbers
-abbrev pub left_by : {P : Type 0} → Sight P → Left P
+abbrev pub left_by : {P : Type 0} → Seen Said P → Left P
 left_by s = left (plainly s.answer) s.points s.marks s.program
 
 -- the tolerance that a number stands for: 2^32 - 1 for none
@@ -37,14 +35,14 @@ given_by t = cond (t == 4294967295) None (Some t)
 
 module _ {P : Type 0} (k : KindMeaning P) where
   -- load, split, cut and close on a new bench, up to the first that is refused
-  abbrev pub cut_with : PredictorMeaning → PackingMeaning → ℕ → List ℕ → List P → List ℕ → List ℕ → Left P
-  cut_with m q t file ps ms bs = left_by (onward k (new ps ms bs) (load m q.reading file) (split (given_by t) ∷ cut ∷ close ∷ []))
+  abbrev pub cut_with : PredictorMeaning → ReadingMeaning → ℕ → List ℕ → List P → List ℕ → List ℕ → Left P
+  cut_with m q t file ps ms bs = left_by (onward k (new ps ms bs) (load m q file) (split (given_by t) ∷ cut ∷ close ∷ []))
 
   -- refused for a reason given, the lists stay
-  abbrev pub cut_unless : Option Why → PredictorMeaning → PackingMeaning → ℕ → List ℕ → List P → List ℕ → List ℕ → Left P
+  abbrev pub cut_unless : Option Why → PredictorMeaning → ReadingMeaning → ℕ → List ℕ → List P → List ℕ → List ℕ → Left P
   cut_unless (Some why) m q t file ps ms bs = left (refused why 0) ps ms bs
   cut_unless None m q t file ps ms bs = cut_with m q t file ps ms bs
 
   -- a cut at the pairing that two numbers name
   abbrev pub cut_by_numbers : ℕ → ℕ → ℕ → List ℕ → List P → List ℕ → List ℕ → Left P
-  cut_by_numbers predictor packing = cut_unless (why_numbers predictor packing) (predictor_at predictor) (packing_at packing)
+  cut_by_numbers predictor packing = cut_unless (why_numbers predictor packing) (predictor_at predictor) (packing_at packing).reading

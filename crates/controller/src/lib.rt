@@ -1,95 +1,90 @@
 // The table's calls for a controller in C: plain numbers and lent lists in, plain numbers out. Nothing is kept between calls.
-// The crate `controller_c` exports them.
+// The crate `controller_c` exports them for each kind.
 #![tactic(auto)]
 
-ghost use Rattle.std.specs.Prelude.{◌≡◌, [], ◌∷◌, length};
-ghost use Rattle.kinds.specs.Models.{flat, mould};
+ghost use Rattle.std.specs.Prelude.{◌≡◌, length};
 ghost use Rattle.seam.specs.Seam.{split_of};
-ghost use Rattle.controller.specs.Answers.{counted as counted_as};
-ghost use Rattle.controller.specs.Cuts.{left, cut_by_numbers};
+ghost use Rattle.controller.specs.Answers.{counted};
+ghost use Rattle.controller.specs.Cuts.{left, given_by, cut_by_numbers};
 ghost use Rattle.controller.specs.Stores.{Stores};
 
 pub mod answer;
-mod pairing;
+mod ranges;
 
-use answer::{Answer, RangeWords, counted};
-use kinds::{Flat, Mould};
-use pairing::{cut_by, store_by};
-use seam::split;
+use answer::Answer;
+use kinds::PointKind;
+use pairing::{Cut, Pairing, Store};
+use range::words::Words;
+use ranges::ranges_of;
+
+// The number that stands for no tolerance.
+const NONE_GIVEN: u32 = 0xFFFF_FFFF;
 
 // Cuts one panel file on a new bench: load, split, cut and close. A tolerance of 2^32 - 1 stands for none.
-pub fn loft_cut_flat(
+pub fn cut<K: PointKind + Copy>(
     file: &[u8],
     predictor: u8,
     packing: u8,
     tolerance: u32,
-    points: &mut [Flat],
+    points: &mut [K],
     marks: &mut [u8],
     program: &mut [u8],
 ) -> Answer
-    ensures { left result points.new marks.new program.new ≡ cut_by_numbers flat predictor packing tolerance file.now points.old marks.old program.old }
+    ensures { left result points.new marks.new program.new ≡
+        cut_by_numbers K.kind predictor packing tolerance file.now points.old marks.old program.old }
 {
-    cut_by::<Flat>(predictor, packing, file, tolerance, points, marks, program)
+    let mut cut = Cut {
+        file,
+        tolerance: given(tolerance),
+        points,
+        marks,
+        program,
+    };
+    match Pairing::new(predictor, packing) {
+        Ok(pairing) => pairing.run(&mut cut).into(),
+        Err(why) => why.into(),
+    }
 }
 
-// The same for moulds.
-pub fn loft_cut_mould(
-    file: &[u8],
-    predictor: u8,
-    packing: u8,
-    tolerance: u32,
-    points: &mut [Mould],
-    marks: &mut [u8],
-    program: &mut [u8],
-) -> Answer
-    ensures { left result points.new marks.new program.new ≡ cut_by_numbers mould predictor packing tolerance file.now points.old marks.old program.old }
+// The tolerance that a number stands for: the greatest stands for none.
+fn given(tolerance: u32) -> Option<u32>
+    ensures { result ≡ given_by tolerance }
 {
-    cut_by::<Mould>(predictor, packing, file, tolerance, points, marks, program)
+    (tolerance != NONE_GIVEN).then_some(tolerance)
 }
 
 // Splits the first `count` points and writes their marks.
-pub fn loft_split_flat(points: &[Flat], count: usize, tolerance: u32, marks: &mut [u8]) -> Answer
-    ensures answer { result ≡ counted_as (split_of flat tolerance count points.now marks.old).0 }
-    ensures marks { marks.new ≡ (split_of flat tolerance count points.now marks.old).1 }
+pub fn split<K: PointKind>(points: &[K], count: usize, tolerance: u32, marks: &mut [u8]) -> Answer
+    ensures answer { result ≡ counted (split_of K.kind tolerance count points.now marks.old).0 }
+    ensures marks { marks.new ≡ (split_of K.kind tolerance count points.now marks.old).1 }
 {
-    counted(split::<Flat>(points, count, tolerance, marks))
+    seam::split(points, count, tolerance, marks).into()
 }
 
-// The same for moulds.
-pub fn loft_split_mould(points: &[Mould], count: usize, tolerance: u32, marks: &mut [u8]) -> Answer
-    ensures answer { result ≡ counted_as (split_of mould tolerance count points.now marks.old).0 }
-    ensures marks { marks.new ≡ (split_of mould tolerance count points.now marks.old).1 }
-{
-    counted(split::<Mould>(points, count, tolerance, marks))
-}
-
-// Stores design points at the front of `file`. The second range stands for the third too, which a flat store does not use.
-pub fn loft_store_flat(
-    design: &[Flat],
+// Stores design points at the front of `file`. A kind of two axes uses the first two ranges.
+pub fn store<K: PointKind>(
+    design: &[K],
     predictor: u8,
     packing: u8,
-    x: &RangeWords,
-    y: &RangeWords,
+    words: [Words; 3],
     work: &mut [i32],
     file: &mut [u8],
 ) -> Answer
-    ensures { Stores flat predictor packing (x.now ∷ y.now ∷ y.now ∷ []) design.now (length work.old) file.old (result, file.new) }
+    ensures { Stores K.kind predictor packing words design.now (length work.old) file.old
+        (result, file.new) }
 {
-    store_by::<Flat>(predictor, packing, design, x, y, y, work, file)
-}
-
-// The same for moulds.
-pub fn loft_store_mould(
-    design: &[Mould],
-    predictor: u8,
-    packing: u8,
-    x: &RangeWords,
-    y: &RangeWords,
-    z: &RangeWords,
-    work: &mut [i32],
-    file: &mut [u8],
-) -> Answer
-    ensures { Stores mould predictor packing (x.now ∷ y.now ∷ z.now ∷ []) design.now (length work.old) file.old (result, file.new) }
-{
-    store_by::<Mould>(predictor, packing, design, x, y, z, work, file)
+    match (Pairing::new(predictor, packing), ranges_of(words)) {
+        (Ok(pairing), Ok(ranges)) => {
+            let ranges = &ranges;
+            pairing
+                .run(&mut Store {
+                    design,
+                    ranges,
+                    work,
+                    file,
+                })
+                .into()
+        }
+        (Err(why), _) | (_, Err(why)) => why.into(),
+    }
 }

@@ -1,15 +1,16 @@
-// The calls of `controller`, exported to C under their names: a static library, for which controller.h is the header.
+// The calls of `controller` for each kind, exported to C: a static library, for which controller.h is the header.
 #![tactic(auto)]
 
 ghost use Rattle.std.specs.Prelude.{◌≡◌, [], ◌∷◌, length};
 ghost use Rattle.kinds.specs.Models.{flat, mould};
 ghost use Rattle.seam.specs.Seam.{split_of};
-ghost use Rattle.controller.specs.Answers.{counted as counted_as};
+ghost use Rattle.controller.specs.Answers.{counted};
 ghost use Rattle.controller.specs.Cuts.{left, cut_by_numbers};
 ghost use Rattle.controller.specs.Stores.{Stores};
 
-use controller::answer::{Answer, RangeWords};
+use controller::answer::Answer;
 use kinds::{Flat, Mould};
+use range::words::Words;
 
 // Cuts one panel file on a new bench: load, split, cut and close. A tolerance of 2^32 - 1 stands for none.
 #[unsafe(no_mangle)]
@@ -24,7 +25,7 @@ pub extern "C" fn loft_cut_flat(
 ) -> Answer
     ensures { left result points.new marks.new program.new ≡ cut_by_numbers flat predictor packing tolerance file.now points.old marks.old program.old }
 {
-    controller::loft_cut_flat(file, predictor, packing, tolerance, points, marks, program)
+    controller::cut::<Flat>(file, predictor, packing, tolerance, points, marks, program)
 }
 
 // The same for moulds.
@@ -40,7 +41,7 @@ pub extern "C" fn loft_cut_mould(
 ) -> Answer
     ensures { left result points.new marks.new program.new ≡ cut_by_numbers mould predictor packing tolerance file.now points.old marks.old program.old }
 {
-    controller::loft_cut_mould(file, predictor, packing, tolerance, points, marks, program)
+    controller::cut::<Mould>(file, predictor, packing, tolerance, points, marks, program)
 }
 
 // Splits the first `count` points and writes their marks.
@@ -51,10 +52,10 @@ pub extern "C" fn loft_split_flat(
     tolerance: u32,
     marks: &mut [u8],
 ) -> Answer
-    ensures answer { result ≡ counted_as (split_of flat tolerance count points.now marks.old).0 }
+    ensures answer { result ≡ counted (split_of flat tolerance count points.now marks.old).0 }
     ensures marks { marks.new ≡ (split_of flat tolerance count points.now marks.old).1 }
 {
-    controller::loft_split_flat(points, count, tolerance, marks)
+    controller::split::<Flat>(points, count, tolerance, marks)
 }
 
 // The same for moulds.
@@ -65,10 +66,10 @@ pub extern "C" fn loft_split_mould(
     tolerance: u32,
     marks: &mut [u8],
 ) -> Answer
-    ensures answer { result ≡ counted_as (split_of mould tolerance count points.now marks.old).0 }
+    ensures answer { result ≡ counted (split_of mould tolerance count points.now marks.old).0 }
     ensures marks { marks.new ≡ (split_of mould tolerance count points.now marks.old).1 }
 {
-    controller::loft_split_mould(points, count, tolerance, marks)
+    controller::split::<Mould>(points, count, tolerance, marks)
 }
 
 // Stores design points at the front of `file`. The second range stands for the third too, which a flat store does not use.
@@ -77,14 +78,14 @@ pub extern "C" fn loft_store_flat(
     design: &[Flat],
     predictor: u8,
     packing: u8,
-    x: &RangeWords,
-    y: &RangeWords,
+    x: &Words,
+    y: &Words,
     work: &mut [i32],
     file: &mut [u8],
 ) -> Answer
     ensures { Stores flat predictor packing (x.now ∷ y.now ∷ y.now ∷ []) design.now (length work.old) file.old (result, file.new) }
 {
-    controller::loft_store_flat(design, predictor, packing, x, y, work, file)
+    controller::store::<Flat>(design, predictor, packing, [*x, *y, *y], work, file)
 }
 
 // The same for moulds.
@@ -93,13 +94,13 @@ pub extern "C" fn loft_store_mould(
     design: &[Mould],
     predictor: u8,
     packing: u8,
-    x: &RangeWords,
-    y: &RangeWords,
-    z: &RangeWords,
+    x: &Words,
+    y: &Words,
+    z: &Words,
     work: &mut [i32],
     file: &mut [u8],
 ) -> Answer
     ensures { Stores mould predictor packing (x.now ∷ y.now ∷ z.now ∷ []) design.now (length work.old) file.old (result, file.new) }
 {
-    controller::loft_store_mould(design, predictor, packing, x, y, z, work, file)
+    controller::store::<Mould>(design, predictor, packing, [*x, *y, *z], work, file)
 }

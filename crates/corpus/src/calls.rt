@@ -9,119 +9,138 @@ use predict::Lag1;
 use refusal::Refusal;
 use std::alloc::Global;
 
-// The three lists that a bench is lent.
+// A call on the bench, or another hand's write into a list between two calls.
+enum Call<'a> {
+    Load { file: &'a [u8] },
+    Split { tolerance: Option<u32> },
+    Cut,
+    Close,
+    Mark { at: usize, mark: u8 },
+    Point { at: usize, point: Flat },
+}
+
+impl<'a> Call<'a> {
+    // The next one of a record: its number, and what it takes.
+    fn read(r: &mut Reader<'a>) -> anyhow::Result<Call<'a>> {
+        match r.byte()? {
+            0 => Ok(Call::Load { file: r.block()? }),
+            1 => Ok(Call::Split {
+                tolerance: tolerance(r.short()?),
+            }),
+            2 => Ok(Call::Cut),
+            3 => Ok(Call::Close),
+            4 => Ok(Call::Mark {
+                at: r.size()?,
+                mark: r.byte()?,
+            }),
+            5 => Ok(Call::Point {
+                at: r.size()?,
+                point: Flat {
+                    x: r.signed()?,
+                    y: r.signed()?,
+                },
+            }),
+            _ => Err(anyhow!("there is no such call")),
+        }
+    }
+}
+
+// A bench, the three lists that it is lent, and the notes of its answers.
 #[derive(Drop)]
-struct Lists {
+struct Table {
+    bench: Bench<Flat>,
     points: Vec<Flat>,
     marks: Vec<u8>,
     program: Vec<u8>,
+    notes: Vec<u8>,
 }
 
-fn lent_lists(heap: Global, r: &mut Reader) -> anyhow::Result<Lists> {
-    let points = vec![in heap; Flat { x: 0, y: 0 }; r.number()? as usize]?;
-    let marks = vec![in heap; 0u8; r.number()? as usize]?;
-    let program = vec![in heap; 0u8; r.number()? as usize]?;
-    Ok(Lists {
-        points,
-        marks,
-        program,
-    })
-}
-
-fn note_number(out: &mut Vec<u8>, n: usize) -> anyhow::Result<()> {
-    out.extend_from_slice(&((n % 4294967296) as u32).to_le_bytes())?;
-    Ok(())
-}
-
-fn note_refusal(out: &mut Vec<u8>, e: Refusal) -> anyhow::Result<()> {
-    out.push(e.why.number())?;
-    note_number(out, e.place)
-}
-
-fn note_one(out: &mut Vec<u8>, answer: Result<usize, Refusal>) -> anyhow::Result<()> {
-    match answer {
-        Ok(n) => {
-            out.push(0)?;
-            note_number(out, n)
-        }
-        Err(e) => note_refusal(out, e),
+impl Table {
+    fn new(heap: Global, r: &mut Reader) -> anyhow::Result<Table> {
+        Ok(Table {
+            bench: Bench::new(),
+            points: vec![in heap; Flat::default(); r.size()?]?,
+            marks: vec![in heap; 0u8; r.size()?]?,
+            program: vec![in heap; 0u8; r.size()?]?,
+            notes: Vec::new(heap),
+        })
     }
-}
 
-fn note_two(out: &mut Vec<u8>, answer: Result<(usize, usize), Refusal>) -> anyhow::Result<()> {
-    match answer {
-        Ok((kept, waited)) => {
-            out.push(0)?;
-            note_number(out, kept)?;
-            note_number(out, waited)
-        }
-        Err(e) => note_refusal(out, e),
+    // The low 32 bits of a number.
+    fn note_number(&mut self, n: usize) -> anyhow::Result<()> {
+        let bytes = (n as u64).to_le_bytes();
+        self.notes.extend_from_slice(&bytes[..4])?;
+        Ok(())
     }
-}
 
-// Another hand writes into a list between two calls.
-fn poke(code: u8, lists: &mut Lists, r: &mut Reader) -> anyhow::Result<()> {
-    let at = r.number()? as usize;
-    if code == 4 {
-        let mark = r.byte()?;
-        if at < lists.marks.len() {
-            lists.marks[at] = mark;
-        }
-    } else {
-        let x = r.signed()?;
-        let y = r.signed()?;
-        if at < lists.points.len() {
-            lists.points[at] = Flat { x, y };
+    // 0 and the numbers of an answer, or a refusal's number and its place.
+    fn note<const N: usize>(&mut self, answer: Result<[usize; N], Refusal>) -> anyhow::Result<()> {
+        match answer {
+            Ok(numbers) => {
+                self.notes.push(0)?;
+                for n in &numbers {
+                    self.note_number(*n)?;
+                }
+                Ok(())
+            }
+            Err(refusal) => {
+                self.notes.push(refusal.why.number())?;
+                self.note_number(refusal.place)
+            }
         }
     }
-    Ok(())
-}
 
-fn call(
-    bench: &mut Bench<Flat>,
-    lists: &mut Lists,
-    out: &mut Vec<u8>,
-    r: &mut Reader,
-) -> anyhow::Result<()> {
-    let code = r.byte()?;
-    match code {
-        0 => {
-            let file = r.block()?;
-            note_one(
-                out,
-                bench.load::<Lag1, Plain>(file, lists.points.as_mut_slice()),
-            )
+    fn make(&mut self, call: Call) -> anyhow::Result<()> {
+        let points = &mut self.points;
+        let marks = &mut self.marks;
+        match call {
+            Call::Load { file } => {
+                let answer = self.bench.load::<Lag1, Plain>(file, points.as_mut_slice());
+                self.note(answer.map(|length| [length]))
+            }
+            Call::Split { tolerance } => {
+                let answer = self
+                    .bench
+                    .split(tolerance, points.as_slice(), marks.as_mut_slice());
+                self.note(answer.map(|(kept, waited)| [kept, waited]))
+            }
+            Call::Cut => {
+                let program = self.program.as_mut_slice();
+                let answer = self.bench.cut(points.as_slice(), marks.as_slice(), program);
+                self.note(answer.map(|length| [length]))
+            }
+            Call::Close => {
+                let answer = self.bench.close(self.program.as_mut_slice());
+                self.note(answer.map(|length| [length]))
+            }
+            Call::Mark { at, mark } => {
+                if let Some(place) = marks.get_mut(at) {
+                    *place = mark;
+                }
+                Ok(())
+            }
+            Call::Point { at, point } => {
+                if let Some(place) = points.get_mut(at) {
+                    *place = point;
+                }
+                Ok(())
+            }
         }
-        1 => {
-            let t = tolerance(r.short()?);
-            note_two(
-                out,
-                bench.split(t, lists.points.as_slice(), lists.marks.as_mut_slice()),
-            )
-        }
-        2 => note_one(
-            out,
-            bench.cut(
-                lists.points.as_slice(),
-                lists.marks.as_slice(),
-                lists.program.as_mut_slice(),
-            ),
-        ),
-        3 => note_one(out, bench.close(lists.program.as_mut_slice())),
-        4 | 5 => poke(code, lists, r),
-        _ => Err(anyhow!("there is no such call")),
     }
 }
 
 // Each call's answer, and then the whole program list.
 pub fn answers(heap: Global, r: &mut Reader) -> anyhow::Result<Vec<u8>> {
-    let mut lists = lent_lists(heap, r)?;
-    let mut bench = Bench::<Flat>::new();
-    let mut out = Vec::new(heap);
+    let mut table = Table::new(heap, r)?;
     let count = r.byte()?;
     for _ in 0..count {
-        call(&mut bench, &mut lists, &mut out, r)?;
+        table.make(Call::read(r)?)?;
     }
-    out.extend_from_slice(lists.program.as_slice())?;
-    Ok(out)
+    let Table {
+        mut notes,
+        program,
+        ..
+    } = table;
+    notes.extend_from_slice(program.as_slice())?;
+    Ok(notes)
 }

@@ -8,57 +8,27 @@ mod run;
 use anyhow::anyhow;
 use range::range::Range;
 use reader::Reader;
-use run::{Pairing, Task};
 use std::alloc::Global;
 use std::fs;
 
 // 0, or the number of the reason why there is no such range.
 fn range_answer(heap: Global, r: &mut Reader) -> anyhow::Result<Vec<u8>> {
-    let bits = r.byte()?;
-    let lower = r.number()?;
-    let upper = r.number()?;
-    let number = match Range::from_words(bits, lower, upper) {
+    let number = match Range::try_from(r.words()?) {
         Ok(_) => 0,
         Err(why) => why.number(),
     };
     Ok(vec![in heap; number]?)
 }
 
-fn pairing(r: &mut Reader) -> anyhow::Result<Pairing> {
-    Ok(Pairing {
-        axes: r.byte()?,
-        predictor: r.byte()?,
-        packing: r.byte()?,
-    })
-}
-
 // What the library gives for the next case.
 fn found(heap: Global, r: &mut Reader) -> anyhow::Result<Vec<u8>> {
     match r.byte()? {
-        0 => {
-            let p = pairing(r)?;
-            run::answer(heap, Task::Cut, p, r)
-        }
-        1 => {
-            let p = pairing(r)?;
-            run::answer(heap, Task::Store, p, r)
-        }
+        0 => run::cut(heap, r),
+        1 => run::store(heap, r),
         2 => range_answer(heap, r),
         3 => calls::answers(heap, r),
         _ => Err(anyhow!("there is no such case")),
     }
-}
-
-fn same(a: &[u8], b: &[u8]) -> bool {
-    if a.len() != b.len() {
-        return false;
-    }
-    for i in 0..a.len() {
-        if a[i] != b[i] {
-            return false;
-        }
-    }
-    true
 }
 
 fn main(rt: HostRuntime) -> anyhow::Result<()> {
@@ -66,6 +36,7 @@ fn main(rt: HostRuntime) -> anyhow::Result<()> {
     let mut r = Reader::new(corpus.as_slice());
     let mut cases: u64 = 0;
     let mut differ: u64 = 0;
+    // a case takes a byte at least
     for _ in 0..corpus.len() {
         if r.is_done() {
             break;
@@ -75,7 +46,7 @@ fn main(rt: HostRuntime) -> anyhow::Result<()> {
         let got = found(rt.alloc(), &mut r)?;
         let expected = r.block()?;
         cases = cases.saturating_add(1);
-        if !same(got.as_slice(), expected) {
+        if got.as_slice() != expected {
             differ = differ.saturating_add(1);
             let name = std::str::from_utf8(name)?;
             println!(rt; "differs: {name}")?;

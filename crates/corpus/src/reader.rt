@@ -1,5 +1,8 @@
 // Takes numbers and bytes from the front of the corpus.
-use anyhow::anyhow;
+use anyhow::Context;
+use range::words::Words;
+
+const SHORT: &str = "the corpus ends inside a record";
 
 #[derive(Drop)]
 pub struct Reader<'a> {
@@ -15,52 +18,53 @@ impl<'a> Reader<'a> {
         self.rest.is_empty()
     }
 
-    pub fn byte(&mut self) -> anyhow::Result<u8> {
-        let [a, rest @ ..] = self.rest else {
-            return Err(anyhow!("the corpus ends inside a record"));
-        };
+    // As many bytes as the array has.
+    pub fn take<const N: usize>(&mut self) -> anyhow::Result<[u8; N]> {
+        let (front, rest) = self.rest.split_first_chunk().context(SHORT)?;
         self.rest = rest;
-        Ok(*a)
+        Ok(*front)
+    }
+
+    pub fn byte(&mut self) -> anyhow::Result<u8> {
+        Ok(u8::from_le_bytes(self.take()?))
     }
 
     pub fn short(&mut self) -> anyhow::Result<u16> {
-        let [a, b, rest @ ..] = self.rest else {
-            return Err(anyhow!("the corpus ends inside a record"));
-        };
-        self.rest = rest;
-        Ok(u16::from_le_bytes([*a, *b]))
+        Ok(u16::from_le_bytes(self.take()?))
     }
 
     pub fn number(&mut self) -> anyhow::Result<u32> {
-        let [a, b, c, d, rest @ ..] = self.rest else {
-            return Err(anyhow!("the corpus ends inside a record"));
-        };
-        self.rest = rest;
-        Ok(u32::from_le_bytes([*a, *b, *c, *d]))
+        Ok(u32::from_le_bytes(self.take()?))
     }
 
     pub fn signed(&mut self) -> anyhow::Result<i32> {
-        let [a, b, c, d, rest @ ..] = self.rest else {
-            return Err(anyhow!("the corpus ends inside a record"));
-        };
-        self.rest = rest;
-        Ok(i32::from_le_bytes([*a, *b, *c, *d]))
+        Ok(i32::from_le_bytes(self.take()?))
+    }
+
+    // A length of a list, or a place in one.
+    pub fn size(&mut self) -> anyhow::Result<usize> {
+        Ok(self.number()? as usize)
+    }
+
+    // A range's bits and ends.
+    pub fn words(&mut self) -> anyhow::Result<Words> {
+        Ok(Words {
+            bits: self.byte()?,
+            lower: self.number()?,
+            upper: self.number()?,
+        })
     }
 
     // So many bytes.
     pub fn bytes(&mut self, n: usize) -> anyhow::Result<&'a [u8]> {
-        let all = self.rest;
-        if all.len() < n {
-            return Err(anyhow!("the corpus ends inside a record"));
-        }
-        let (front, rest) = all.split_at(n);
+        let (front, rest) = self.rest.split_at_checked(n).context(SHORT)?;
         self.rest = rest;
         Ok(front)
     }
 
     // A length, and so many bytes.
     pub fn block(&mut self) -> anyhow::Result<&'a [u8]> {
-        let n = self.number()?;
-        self.bytes(n as usize)
+        let n = self.size()?;
+        self.bytes(n)
     }
 }
