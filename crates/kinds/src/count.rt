@@ -1,5 +1,5 @@
 // How many vertices a panel has.
-ghost use Rattle.std.specs.Prelude.{◌≡◌, ◌↔◌, if◌then◌else◌, Some, None, Option};
+ghost use Rattle.std.specs.Prelude.{◌≡◌, if◌then◌else◌, Some, None, Option};
 ghost use Rattle.kinds.specs.Count.{IsVertexCount, is_vertex_count};
 
 use std::marker::Model;

@@ -85,8 +85,10 @@ pub trait Foresight {
     ghost means: { PredictorMeaning };
 
     fn foresee(i: u16, before: Before) -> i32
-        ensures residue { (value : ℤ) → means.residue i before value ≡ Self.Way.apart value result }
-        ensures value { (residue : ℤ) → means.value i before residue ≡ Self.Way.joined residue result };
+        ensures residue { (value : ℤ) →
+            means.residue i before value ≡ Self.Way.apart value result }
+        ensures value { (residue : ℤ) →
+            means.value i before residue ≡ Self.Way.joined residue result };
 
     ghost numbered: { NUMBER ≡ means.number };
 }

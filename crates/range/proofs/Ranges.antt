@@ -3,7 +3,6 @@ use Rattle.std.proofs.Common.{◌≡◌, ◌+◌, ◌*◌, ◌^◌, ◌<◌, ◌
 use lib.Signed.{le_z, lt_z}
 use lib.Ieee.Fits.{and_l, and_r, and_i}
 use borrow.Author.Differences.{ints}
-use Rattle.range.specs.Codes.{numerator}
 use Rattle.range.specs.Judged.{refusal}
 use Rattle.range.specs.Laws.{Between, OnTable}
 use Rattle.range.specs.Scale.{Scale, IsRange, scale_from, lowest, highest, quanta, width, inside, is_code, code_in, place_in}
@@ -59,22 +58,7 @@ module _ (g : Scale) (is : IsRange g) (v : ℤ) (h : inside g v ≡ true) where
   unfolding code_in
   code-within = to-test (pos 0) (code_in g v) (pos (quanta g)) (Coding.code-in-range g.bits (lowest g) (highest g) v between)
 
-  -- 2 |M v - N| ≤ D, for the N of its code
-  pub quantum-near : 2 * nat_abs (pos (quanta g) *ℤ v -ℤ numerator g.bits (lowest g) (highest g) (nat_abs (code_in g v))) ≤ width g
-  unfolding code_in
-  quantum-near = Coding.half-a-quantum g.bits (lowest g) (highest g) v between
-
   -- 2 M |v - 16 p| ≤ D + 16 M, for the place p of its code
   pub place-near : 2 * quanta g * nat_abs (v -ℤ pos 16 *ℤ place_in g (code_in g v)) ≤ width g + 16 * quanta g
   unfolding code_in place_in
   place-near = Coding.place-near g.bits (lowest g) (highest g) v is.wide.0 between
-
--- |16 M p - N| ≤ 8 M, for the place p and the N of a code
-pub step-near : (g : Scale) (is : IsRange g) (c : ℤ) → nat_abs (pos (16 * quanta g) *ℤ place_in g c -ℤ numerator g.bits (lowest g) (highest g) (nat_abs c)) ≤ 8 * quanta g
-unfolding place_in
-step-near g is c = Coding.half-a-step g.bits (lowest g) (highest g) (nat_abs c) is.wide.0
-
--- the place of a code is at most 2 ^ 20 steps from zero
-pub place-within : (g : Scale) (is : IsRange g) (c : ℤ) → is_code g c ≡ true → nat_abs (place_in g c) ≤ 1048576
-unfolding place_in
-place-within g is c h = Coding.places-bounded g.bits (lowest g) (highest g) (nat_abs c) is.wide.0 (ends-on-table g is) (code-nat g c h).1

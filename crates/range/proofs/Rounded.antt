@@ -1,5 +1,5 @@
 -- The sums that `code` and `place` work out, as the machine has them.
-use Rattle.std.proofs.Common.{◌≡◌, ℕ, suc, ◌+◌, ◌*◌, ◌/◌, ◌^◌, ◌<◌, ◌≤◌, ℤ, pos, negsuc, ◌+ℤ◌, ◌-ℤ◌, ◌*ℤ◌, neg_ℤ, nat_abs, ◌≤ℤ◌, ◌<ℤ◌, sym, refl, ap, ◌∙◌, subst, mul-le-mul_right, mul_assoc, div-lt_iff_lt-mul, mul-le-mul, mul-le-mul_left, arith, pow_pos, pow_mono, to_z-of_z, w32, w64, SFits, to_z, of_z}
+use Rattle.std.proofs.Common.{◌≡◌, ℕ, suc, ◌+◌, ◌*◌, ◌/◌, ◌^◌, ◌<◌, ◌≤◌, ℤ, pos, negsuc, ◌+ℤ◌, ◌-ℤ◌, ◌*ℤ◌, neg_ℤ, nat_abs, ◌≤ℤ◌, sym, refl, ap, ◌∙◌, subst, mul-le-mul_right, mul_assoc, div-lt_iff_lt-mul, mul-le-mul, mul-le-mul_left, arith, pow_pos, pow_mono, to_z-of_z, w32, w64, SFits, to_z, of_z}
 use Rattle.std.proofs.lemmas.Int.{unsigned_abs-mul}
 use borrow.Author.Differences.{ints}
 use Rattle.range.specs.Codes.{floor, top, span, code_of, place_of}
@@ -120,10 +120,6 @@ module _ (L : ℤ) (D t k : ℕ) (l : nat_abs L ≤ 16777216) (d : D ≤ 3355443
 
   pub numerator-is : W (W (W (to_z w64 t *ℤ lo) +ℤ W (to_z w64 k *ℤ to_z w64 D)) +ℤ W (pos 8 *ℤ to_z w64 t)) ≡ pos t *ℤ L +ℤ pos (k * D) +ℤ pos (8 * t)
   numerator-is = to_z-of_z add-2 ∙ all-is
-
-  -- what the floor asks
-  pub by-pos : pos 0 <ℤ W (pos 16 *ℤ to_z w64 t)
-  by-pos = subst (λ (z : ℤ). pos 0 <ℤ z) (sym sixteen-is) (omega (arith, ints))
 
   pub place_is : int_div_euclid (W (W (W (to_z w64 t *ℤ lo) +ℤ W (to_z w64 k *ℤ to_z w64 D)) +ℤ W (pos 8 *ℤ to_z w64 t))) (W (pos 16 *ℤ to_z w64 t)) ≡ floor (pos t *ℤ L +ℤ pos (k * D) +ℤ pos (8 * t)) (16 * t)
   place_is = ap (λ (z : ℤ). int_div_euclid z (W (pos 16 *ℤ to_z w64 t))) numerator-is ∙ ap (int_div_euclid (pos t *ℤ L +ℤ pos (k * D) +ℤ pos (8 * t))) sixteen-is ∙ euclid-floor (pos t *ℤ L +ℤ pos (k * D) +ℤ pos (8 * t)) (16 * t)

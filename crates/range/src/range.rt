@@ -115,11 +115,7 @@ impl Range {
         ensures value { result ≡ (if inside self.now v then Some (code_in self.now v) else None) }
         ensures bound { IfSome result (λ c. unsigned_abs c < 2 ^ MOST_BITS) }
     {
-        if self.holds(v) {
-            Some(self.code_of(v))
-        } else {
-            None
-        }
+        self.holds(v).then(|| self.code_of(v))
     }
 
     // The code of a design coordinate that the range holds: its quantum is nearest.
@@ -138,11 +134,7 @@ impl Range {
     pub fn place(&self, code: i32) -> Option<i32>
         ensures { result ≡ (if is_code self.now code then Some (place_in self.now code) else None) }
     {
-        if self.is_code(code) {
-            Some(self.step_of(code))
-        } else {
-            None
-        }
+        self.is_code(code).then(|| self.step_of(code))
     }
 
     // The place of a code, in steps.
