@@ -1,12 +1,21 @@
 -- The least of a list, and the width of its greatest difference.
-use Rattle.std.proofs.Common.{◌≡◌, ℕ, ◌^◌, ◌<◌, ◌≤◌, List, [], ◌∷◌, length, ℤ, ◌≤ℤ◌, fold, refl, sym, subst, inl, inr, suc, arith}
+use Rattle.std.proofs.Common.{◌≡◌, ℕ, ◌^◌, ◌<◌, ◌≤◌, List, [], ◌∷◌, length, ℤ, ◌≤ℤ◌, fold, refl, sym, subst, inl, inr, suc, arith, lit≤}
 use Rattle.std.specs.Int.{int_min}
 use Rattle.std.specs.Int.Digits.{AllBelowBase}
+use Rattle.std.proofs.lemmas.Nat.{pow_pos}
+use Rattle.std.proofs.lemmas.Int.Digits.{length-digits_of-le}
 use Rattle.std.specs.List.{All, Contains}
 use Rattle.std.proofs.lemmas.Int.{ints, fold-int_min_reached}
 use Rattle.std.proofs.lemmas.List.Elements.{All-contains, All-from_recursion, recursion_from_All}
 use Rattle.pack.specs.Fields.{least, greatest, width_of}
-use Rattle.pack.specs.Fielded.{least-low, under-greatest, under-width, width-least}
+use Rattle.pack.specs.Fielded.{least-low, under-greatest, under-width}
+
+greatest-under : (fs : List ℕ) (m : ℕ) → 0 < m → AllBelowBase m fs → greatest fs < m
+greatest-under [] m h all = h
+greatest-under (f ∷ fs) m h all = let rest = greatest-under fs m h all.1 in let here = all.0 in omega arith
+
+pub width-least : (fs : List ℕ) (v : ℕ) → AllBelowBase (2 ^ v) fs → width_of fs ≤ v
+width-least fs v all = length-digits_of-le 2 v (greatest fs) (lit≤ tt) (greatest-under fs (2 ^ v) (pow_pos v) all)
 
 ordered : (a b : ℤ) → a ≤ℤ b → b ≤ℤ a → a ≡ b
 ordered a b h k = omega (arith, ints)

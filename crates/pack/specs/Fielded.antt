@@ -1,6 +1,6 @@
 -- Packing 1 is a packing: what is written is read back, and a body that is read means numbers of 32 bits.
-use Rattle.std.specs.Prelude.{◌≡◌, ℕ, zero, suc, ◌+◌, ◌*◌, ◌/◌, ◌%◌, ◌^◌, ◌<◌, ◌≤◌, Bool, true, cond, ◌⊎◌, List, [], ◌∷◌, map, length, drop, ℤ, pos, ◌+ℤ◌, ◌-ℤ◌, ◌≤ℤ◌, fold, ◌==◌, nat_le, slice_index, refl, Ok, Err, Result}
-use Rattle.std.proofs.Common.{sym, ap, ap₂, subst, ◌∙◌, inl, inr, ⊎_elim, arith, mul-le-mul_left, suc-mul, mod-eq_of_lt, eqb-true, leb-true, lit<, lit≤, pow-add}
+use Rattle.std.specs.Prelude.{◌≡◌, ℕ, zero, suc, ◌+◌, ◌*◌, ◌/◌, ◌%◌, ◌^◌, ◌<◌, ◌≤◌, ◌⊎◌, List, [], ◌∷◌, map, length, drop, ℤ, pos, ◌+ℤ◌, ◌-ℤ◌, ◌≤ℤ◌, fold, ◌==◌, nat_le, slice_index, refl, Ok, Err, Result}
+use Rattle.std.proofs.Common.{sym, ap, ap₂, subst, ◌∙◌, inl, inr, ⊎_elim, arith, mul-le-mul_left, suc-mul, mod-eq_of_lt, eqb-true, leb-true, lit<, lit≤, pow-add, is_ok, true≢false}
 use Prim.Native.Nat.pow
 use Rattle.std.proofs.Math.Nat.{pow-zero, mul-mod_left}
 use borrow.Author.Differences.{abs_is}
@@ -9,8 +9,8 @@ use Rattle.std.specs.List.{AllByRecursion}
 use Rattle.std.specs.Int.Digits.{digits_of, number_from_digits, AllBelowBase}
 use Rattle.std.proofs.ByRecursion.{all-has, folded_min_z_bounds, folded_min_z_reached}
 use Rattle.std.proofs.lemmas.List.{length-map}
-use Rattle.std.proofs.lemmas.Bool.{le-leb, eq-eqb, cond_both}
-use Rattle.std.proofs.lemmas.Nat.{shl-shr, shl_below, pow_pos}
+use Rattle.std.proofs.lemmas.Bool.{le-leb, eq-eqb, cond-true, cond_both}
+use Rattle.std.proofs.lemmas.Nat.{shl-shr, shl_below}
 use Rattle.std.proofs.lemmas.Int.{ints, int_wrap_fits, SFits-int_wrap}
 use Rattle.std.proofs.lemmas.Int.Digits.{number_digits_of, number_lt, all_below_base_digits_of, length-digits_of-le}
 use Rattle.refusal.specs.declared.Why.{Why}
@@ -25,9 +25,6 @@ pub pow-pow : (a k : ℕ) → (2 ^ a) ^ k ≡ 2 ^ (k * a)
 pow-pow a zero = let none : 0 ≡ 0 * a = omega arith in pow-zero (2 ^ a) ∙ ap (λ (j : ℕ). 2 ^ j) none
 pow-pow a (suc k) =
     pow.suc (2 ^ a) k ∙ ap (λ (m : ℕ). m * 2 ^ a) (pow-pow a k) ∙ sym (pow-add 2 (k * a) a) ∙ ap (λ (j : ℕ). 2 ^ j) (sym (suc-mul k a))
-
-taken : {X : Type 0} {b : Bool} (x y : X) → b ≡ true → cond b x y ≡ x
-taken x y e = ap (λ (v : Bool). cond v x y) e
 
 module _ (w : ℕ) (fs : List ℕ) (small : AllBelowBase (2 ^ w) fs) where
   abbrev n : ℕ
@@ -47,10 +44,10 @@ module _ (w : ℕ) (fs : List ℕ) (small : AllBelowBase (2 ^ w) fs) where
   pub body-read : (base : ℤ) → Word base → w ≤ 32 → fielded_reads n (packed base w fs) ≡ Ok (map (λ f. base ⊞ pos f) fs)
   body-read base word narrow =
       let long : length (laid w fs) ≡ room n w = length_digits 256 (room n w) (number_from_digits (2 ^ w) fs * 2 ^ spare n w) in
-      taken _ _ (le-leb 5 (length (packed base w fs)) (omega arith))
-      ∙ taken _ _ (le-leb w 32 narrow)
-      ∙ taken _ _ (eq-eqb (length (packed base w fs)) (5 + room n w) (omega arith))
-      ∙ taken _ _ (eq-eqb _ 0 (ap (λ (m : ℕ). m % 2 ^ spare n w) number-laid ∙ mul-mod_left (number_from_digits (2 ^ w) fs) (2 ^ spare n w)))
+      cond-true _ _ _ (le-leb 5 (length (packed base w fs)) (omega arith))
+      ∙ cond-true _ _ _ (le-leb w 32 narrow)
+      ∙ cond-true _ _ _ (eq-eqb (length (packed base w fs)) (5 + room n w) (omega arith))
+      ∙ cond-true _ _ _ (eq-eqb _ 0 (ap (λ (m : ℕ). m % 2 ^ spare n w) number-laid ∙ mul-mod_left (number_from_digits (2 ^ w) fs) (2 ^ spare n w)))
       ∙ ap Ok (ap₂ (λ (b : ℤ) (gs : List ℕ). map (λ f. b ⊞ pos f) gs) (word_back base (w ∷ laid w fs) word) fields_laid)
 
 -- ---- the base and the width
@@ -82,13 +79,6 @@ under-greatest (f ∷ fs) m h = (omega arith, under-greatest fs m (omega arith))
 
 pub under-width : (n : ℕ) → n < 2 ^ length (digits_of 2 n)
 under-width n = subst (λ (k : ℕ). k < 2 ^ length (digits_of 2 n)) (number_digits_of 2 n (lit≤ tt)) (number_lt 2 (digits_of 2 n) (all_below_base_digits_of 2 n (lit≤ tt)))
-
-greatest-under : (fs : List ℕ) (m : ℕ) → 0 < m → AllBelowBase m fs → greatest fs < m
-greatest-under [] m h all = h
-greatest-under (f ∷ fs) m h all = let rest = greatest-under fs m h all.1 in let here = all.0 in omega arith
-
-pub width-least : (fs : List ℕ) (v : ℕ) → AllBelowBase (2 ^ v) fs → width_of fs ≤ v
-width-least fs v all = length-digits_of-le 2 v (greatest fs) (lit≤ tt) (greatest-under fs (2 ^ v) (pow_pos v) all)
 
 pub least-low : (xs : List ℤ) → AllByRecursion (λ x. least xs ≤ℤ x) xs
 least-low [] = tt
@@ -127,7 +117,7 @@ by_read n body Q length-no spare-no list =
     (λ _. length-no)
 
 no-list : {A : Type 0} (r : Why) (xs : List ℤ) → Err r ≡ Ok xs → A
-no-list r xs e = let z : ◌≡◌ {A = ℕ} 0 1 = cc in absurd (omega arith)
+no-list r xs e = absurd (true≢false (sym (ap is_ok e)))
 
 all-wrapped : (b : ℤ) (fs : List ℕ) → AllByRecursion Word (map (λ f. b ⊞ pos f) fs)
 all-wrapped b [] = tt
@@ -153,7 +143,7 @@ module _ (n : ℕ) (body : List ℕ) where
   pub fielded-refusals : (r : Why) → fielded_reads n body ≡ Err r → (r ≡ BodyLength) ⊎ (r ≡ SpareBits)
   fielded-refusals r =
       by_read n body (λ o. o ≡ Err r → (r ≡ BodyLength) ⊎ (r ≡ SpareBits)) (λ e. inl (cc)) (λ e. inr (cc))
-      (λ _ _ _ _ e. let z : ◌≡◌ {A = ℕ} 0 1 = cc in absurd (omega arith))
+      (λ _ _ _ _ e. absurd (true≢false (ap is_ok e)))
 
 pub fielded-short : (xs : List ℤ) → AllByRecursion Word xs → length (fielded_writes xs) ≤ 8 + 4 * length xs
 fielded-short xs words =

@@ -1,6 +1,6 @@
 -- Packing 0: four bytes for each entry, the lowest first.
 use Rattle.std.specs.Prelude.{◌≡◌, ℕ, zero, suc, ◌*◌, ◌⊎◌, List, [], ◌∷◌, ◌++◌, length, drop, map, ℤ, ◌==◌, refl, Ok, Err, Result}
-use Rattle.std.proofs.Common.{sym, ap, ap₂, subst, ◌∙◌, inl, arith, lit<, to_z, of_z}
+use Rattle.std.proofs.Common.{sym, ap, ap₂, subst, ◌∙◌, inl, arith, lit<, to_z, of_z, is_ok, true≢false}
 use Rattle.std.specs.Int.{w32, from_le_bytes, to_le_bytes}
 use Rattle.std.proofs.Math.Facts.{Fits-of_z}
 use borrow.Author.Gap.{read_sfits}
@@ -59,18 +59,18 @@ pub plain-counts : (n : ℕ) (body : List ℕ) (xs : List ℤ) → plain_reads n
 plain-counts n body xs =
     cond_both (length body == 4 * n) _ _ (λ (r : Result (List ℤ) Why). r ≡ Ok xs → length xs ≡ n)
     (λ _ e. let same : words_of n body ≡ xs = cc in ap length (sym same) ∙ length-words-of n body)
-    (λ _ e. let z : ◌≡◌ {A = ℕ} 0 1 = cc in absurd (omega arith))
+    (λ _ e. absurd (true≢false (sym (ap is_ok e))))
 
 pub plain-words : (n : ℕ) (body : List ℕ) (xs : List ℤ) → plain_reads n body ≡ Ok xs → AllByRecursion Word xs
 plain-words n body xs =
     cond_both (length body == 4 * n) _ _ (λ (r : Result (List ℤ) Why). r ≡ Ok xs → AllByRecursion Word xs)
     (λ _ e. let same : words_of n body ≡ xs = cc in subst (AllByRecursion Word) same (all-words-of n body))
-    (λ _ e. let z : ◌≡◌ {A = ℕ} 0 1 = cc in absurd (omega arith))
+    (λ _ e. absurd (true≢false (sym (ap is_ok e))))
 
 pub plain-refusals : (n : ℕ) (body : List ℕ) (r : Why) → plain_reads n body ≡ Err r → (r ≡ BodyLength) ⊎ (r ≡ SpareBits)
 plain-refusals n body r =
     cond_both (length body == 4 * n) _ _ (λ (o : Result (List ℤ) Why). o ≡ Err r → (r ≡ BodyLength) ⊎ (r ≡ SpareBits))
-    (λ _ e. let z : ◌≡◌ {A = ℕ} 0 1 = cc in absurd (omega arith))
+    (λ _ e. absurd (true≢false (ap is_ok e)))
     (λ _ e. inl (cc))
 
 pub plain_back : (xs : List ℤ) → AllByRecursion Word xs → plain_reads (length xs) (spelled xs) ≡ Ok xs

@@ -1,17 +1,18 @@
 // Packings: a list of 32-bit numbers as the bytes of a file, and back.
 #![tactic(auto)]
 
-ghost use Rattle.std.specs.Prelude.{◌≡◌, ℕ, ◌+◌, ◌-◌, ◌*◌, ◌/◌, ◌%◌, ◌^◌, ◌<◌, ◌≤◌, ◌∷◌, ◌++◌, map, length, take, drop, All, Contains, ◌≤ℤ◌, refl};
+ghost use Rattle.std.specs.Prelude.{◌≡◌, ℕ, ◌+◌, ◌-◌, ◌*◌, ◌/◌, ◌%◌, ◌^◌, ◌<◌, ◌≤◌, ◌∷◌, ◌++◌, map, length, drop, All, Contains, IfOk, IfErr, ◌≤ℤ◌, refl};
 ghost use Rattle.std.specs.Int.Digits.{number_from_digits, AllBelowBase};
 ghost use Rattle.kinds.specs.Count.{IsVertexCount};
+ghost use Rattle.refusal.specs.declared.Why.TheVariants.{BodyLength};
 ghost use Rattle.pack.specs.Packing.{ReadingMeaning, PackingMeaning, Accepted, verdict, entry as Entry};
 ghost use Rattle.pack.specs.Plain.{plain, le_bytes};
-ghost use Rattle.pack.specs.Fields.{least, gap, width_of, room, laid, fielded_writes};
+ghost use Rattle.pack.specs.Fields.{least, gap, width_of, room, spare, laid, fielded_writes};
 ghost use Rattle.pack.specs.Fielded.{fielded};
 ghost use Rattle.pack.specs.Laws.{HighFirst, OnlyPacked};
 ghost use Rattle.pack.specs.Figures.{Figures};
 
-use kinds::VertexCount;
+use kinds::{MOST_VERTICES, VertexCount};
 use refusal::Why;
 
 // A packing, to a reader: what a body of bytes means.
@@ -50,7 +51,8 @@ pub trait Packing: Unpacking {
     fn write(list: &[i32], body: &mut [u8])
         requires counted { IsVertexCount (length list.now) }
         requires room { length (means.writes list.now) ≤ length body.old }
-        ensures { body.new ≡ means.writes list.now ++ drop (length (means.writes list.now)) body.old };
+        ensures { body.new ≡
+            means.writes list.now ++ drop (length (means.writes list.now)) body.old };
 
     // It is written for this very reader.
     ghost read_back: { means.reading ≡ Self.reading };
@@ -114,18 +116,14 @@ impl Unpacking for Fielded {
 
     fn judge(body: &[u8], n: VertexCount) -> Result<(), Why> {
         let n = n.get();
-        let [_, _, _, _, width, fields @ ..] = body else {
+        let Some(([.., width], fields)) = body.split_first_chunk::<5>() else {
             return Err(Why::BodyLength);
         };
-        let w = usize::from(*width);
-        if w > 32 {
+        let width = Width::try_from(*width)?;
+        if fields.len() != width.room(n) {
             return Err(Why::BodyLength);
         }
-        let bytes = room_of(n, w);
-        if fields.len() != bytes {
-            return Err(Why::BodyLength);
-        }
-        if spare_bits(fields, 8 * bytes - n * w) == 0 {
+        if spare_bits(fields, width.spare(n)) == 0 {
             Ok(())
         } else {
             Err(Why::SpareBits)
@@ -133,12 +131,13 @@ impl Unpacking for Fielded {
     }
 
     fn entry(body: &[u8], _n: VertexCount, i: usize) -> i32 {
-        let [a, b, c, d, width, fields @ ..] = body else {
-            unreachable!()
+        let (base, rest) = body.split_first_chunk::<4>().unwrap();
+        let (width, fields) = rest.split_first().unwrap();
+        let width = Width {
+            bits: usize::from(*width),
         };
-        let base = i32::from_le_bytes([*a, *b, *c, *d]);
-        let w = usize::from(*width);
-        base.wrapping_add_unsigned(field(fields, i * w, w))
+        let base = i32::from_le_bytes(*base);
+        base.wrapping_add_unsigned(width.field(fields, i))
     }
 }
 
@@ -158,14 +157,6 @@ impl Packing for Fielded {
     }
 }
 
-// How many bytes `n` fields of `w` bits take.
-fn room_of(n: usize, w: usize) -> usize
-    requires { (n ≤ 4096) × (w ≤ 32) }
-    ensures { result ≡ room n w }
-{
-    (n * w + 7) / 8
-}
-
 // The smallest entry: the base.
 fn smallest(list: &[i32]) -> i32
     requires { 0 < length list.now }
@@ -182,26 +173,6 @@ fn widest(base: i32, list: &[i32]) -> u32
     ensures among { Contains (map (gap base) list.now) result }
 {
     list.iter().map(|x| x.abs_diff(base)).max().unwrap()
-}
-
-// How many bits a number takes.
-fn bits_of(number: u32) -> u32
-    ensures holds { number < 2 ^ result }
-    ensures smallest { (w : ℕ) → number < 2 ^ w → result ≤ w }
-    ensures bound { result ≤ 32 }
-{
-    number.checked_ilog2().map_or(0, |power| power + 1)
-}
-
-// The smallest width that holds the list's differences to `base`.
-fn width_over(base: i32, list: &[i32]) -> u32
-    requires { 0 < length list.now }
-    ensures value { result ≡ width_of (map (gap base) list.now) }
-    ensures narrow { result ≤ 32 }
-    ensures holds { AllBelowBase (2 ^ result) (map (gap base) list.now) }
-    ensures smallest { (v : ℕ) → AllBelowBase (2 ^ v) (map (gap base) list.now) → result ≤ v }
-{
-    bits_of(widest(base, list))
 }
 
 // The last `k` bits of the fields' bytes.
@@ -225,35 +196,106 @@ fn number_of(bytes: &[u8]) -> u64
     u64::from_be_bytes(eight)
 }
 
-// The last `w` of the bits above the last `below`.
-fn bits_over(number: u64, below: usize, w: usize) -> u32
-    requires { (below < 64) × (w ≤ 32) }
-    ensures { result ≡ number / 2 ^ below % 2 ^ w }
-{
-    ((number >> below) % (1 << w)) as u32
+// The width of a field: how many bits it has.
+#[derive(Clone, Copy)]
+struct Width {
+    bits: usize,
+    ghost narrow: { bits ≤ 32 },
 }
 
-// The `w` bits from the bit `at` on. They lie in the first five of the bytes read, which are eight where so many are left.
-fn field(bytes: &[u8], at: usize, w: usize) -> u32
-    requires { (w ≤ 32) × ((at + w ≤ 8 * length bytes.now) × (length bytes.now ≤ 65536)) }
-    ensures { result ≡ number_from_digits 256 bytes.now / 2 ^ (8 * length bytes.now - (at + w)) % 2 ^ w }
-{
-    if w == 0 {
-        return 0;
+// The width that a body's byte names.
+impl TryFrom<u8> for Width {
+    type Error = Why;
+
+    ghost try_from_gives = { λ byte r.
+        IfOk r (λ w. w.bits ≡ byte) × IfErr r (λ why. (32 < byte) × (why ≡ BodyLength)) };
+
+    fn try_from(byte: u8) -> Result<Width, Why> {
+        if byte > 32 {
+            return Err(Why::BodyLength);
+        }
+        Ok(Width {
+            bits: usize::from(byte),
+        })
     }
-    let start = at / 8;
-    if let Some(eight) = bytes[start..].first_chunk::<8>() {
-        return bits_over(u64::from_be_bytes(*eight), 8 * (start + 8) - (at + w), w);
-    }
-    bits_over(number_of(&bytes[start..]), 8 * bytes.len() - (at + w), w)
 }
 
-// The bits of `acc` above the last `have`: at most eight.
-fn bits_above(acc: u64, have: u32) -> u8
-    requires { (have < 64) × (acc / 2 ^ have < 256) }
-    ensures { result ≡ acc / 2 ^ have }
+impl Width {
+    // As many bits as a number takes.
+    fn of(number: u32) -> Width
+        ensures holds { number < 2 ^ result.bits }
+        ensures smallest { (w : ℕ) → number < 2 ^ w → result.bits ≤ w }
+    {
+        let bits = number.checked_ilog2().map_or(0, |power| power + 1);
+        Width {
+            bits: bits as usize,
+        }
+    }
+
+    // The smallest width that holds the list's differences to `base`.
+    fn over(base: i32, list: &[i32]) -> Width
+        requires { 0 < length list.now }
+        ensures value { result.bits ≡ width_of (map (gap base) list.now) }
+        ensures holds { AllBelowBase (2 ^ result.bits) (map (gap base) list.now) }
+        ensures smallest { let fields = map (gap base) list.now in
+            (v : ℕ) → AllBelowBase (2 ^ v) fields → result.bits ≤ v }
+    {
+        Width::of(widest(base, list))
+    }
+
+    // How many bytes `n` fields take.
+    fn room(self, n: usize) -> usize
+        requires { n ≤ MOST_VERTICES }
+        ensures { result ≡ room n self.bits }
+    {
+        (n * self.bits + 7) / 8
+    }
+
+    // And how many of their bits are spare.
+    fn spare(self, n: usize) -> usize
+        requires { n ≤ MOST_VERTICES }
+        ensures { result ≡ spare n self.bits }
+    {
+        8 * self.room(n) - n * self.bits
+    }
+
+    // The last bits of those above the last `below`: a field.
+    fn bits_over(self, number: u64, below: usize) -> u32
+        requires { below < 64 }
+        ensures { result ≡ number / 2 ^ below % 2 ^ self.bits }
+    {
+        ((number >> below) % (1 << self.bits)) as u32
+    }
+
+    // Field `i`. It lies in the first five of the bytes read, which are eight where so many are
+    // left.
+    fn field(self, bytes: &[u8], i: usize) -> u32
+        requires inside { i * self.bits + self.bits ≤ 8 * length bytes.now }
+        requires few { length bytes.now ≤ 65536 }
+        ensures { let below = 8 * length bytes.now - (i * self.bits + self.bits) in
+            result ≡ number_from_digits 256 bytes.now / 2 ^ below % 2 ^ self.bits }
+    {
+        if self.bits == 0 {
+            return 0;
+        }
+        let at = i * self.bits;
+        let start = at / 8;
+        if let Some(eight) = bytes[start..].first_chunk::<8>() {
+            return self.bits_over(u64::from_be_bytes(*eight), 64 - (at % 8 + self.bits));
+        }
+        self.bits_over(
+            number_of(&bytes[start..]),
+            8 * bytes.len() - (at + self.bits),
+        )
+    }
+}
+
+// The eight bits of `acc` above the last `have`.
+fn bits_above(acc: u64, have: usize) -> u8
+    requires few { have < 64 }
+    ensures { result ≡ acc / 2 ^ have % 256 }
 {
-    (acc >> have) as u8
+    ((acc >> have) % 256) as u8
 }
 
 // A list with its base, which is its smallest entry, and its width, which holds each entry's difference to the base.
@@ -261,11 +303,10 @@ fn bits_above(acc: u64, have: u32) -> u8
 struct Framed<'a> {
     list: &'a [i32],
     base: i32,
-    width: u32,
+    width: Width,
     ghost counted: { IsVertexCount (length list.now) },
     ghost lowest: { base ≡ least list.now },
-    ghost narrowest: { width ≡ width_of (map (gap base) list.now) },
-    ghost narrow: { width ≤ 32 },
+    ghost narrowest: { width.bits ≡ width_of (map (gap base) list.now) },
 }
 
 impl<'a> Framed<'a> {
@@ -274,7 +315,7 @@ impl<'a> Framed<'a> {
         ensures { result.list.now ≡ list.now }
     {
         let base = smallest(list);
-        let width = width_over(base, list);
+        let width = Width::over(base, list);
         Framed { list, base, width }
     }
 
@@ -282,40 +323,39 @@ impl<'a> Framed<'a> {
         ensures size { result ≡ length (fielded_writes self.now.list.now) }
         ensures short { result ≤ 8 + 4 * length self.now.list.now }
     {
-        5 + room_of(self.list.len(), self.width as usize)
+        5 + self.width.room(self.list.len())
     }
 
     // Writes the base and the width.
     fn write_head(&self, body: &mut [u8])
         requires { 5 ≤ length body.old }
-        ensures { body.new ≡ le_bytes self.now.base ++ (self.now.width ∷ drop 5 body.old) }
+        ensures { body.new ≡ le_bytes self.now.base ++ (self.now.width.bits ∷ drop 5 body.old) }
     {
         body[..4].copy_from_slice(&self.base.to_le_bytes());
-        body[4] = self.width as u8;
+        body[4] = self.width.bits as u8;
     }
 
     // Writes the fields; what follows them stays.
     fn lay(&self, out: &mut [u8])
-        requires { room (length self.now.list.now) self.now.width ≤ length out.old }
-        ensures { let fields = map (gap self.now.base) self.now.list.now in
-            out.new ≡ laid self.now.width fields ++ drop (room (length self.now.list.now) self.now.width) out.old }
+        requires { room (length self.now.list.now) self.now.width.bits ≤ length out.old }
+        ensures { let w = self.now.width.bits in
+            let fields = map (gap self.now.base) self.now.list.now in
+            out.new ≡ laid w fields ++ drop (room (length self.now.list.now) w) out.old }
     {
-        // the last `have` bits, not yet written, and where the next byte goes
+        let (base, width) = (self.base, self.width.bits);
+        let mut entries = self.list.iter();
+        // of `acc` the last `have` bits are not yet written
         let mut acc: u64 = 0;
-        let mut have: u32 = 0;
-        let mut at: usize = 0;
-        for x in self.list {
-            acc = (acc << self.width) + u64::from(x.abs_diff(self.base));
-            have += self.width;
-            while have >= 8 {
-                have -= 8;
-                out[at] = bits_above(acc, have);
-                acc %= 1 << have;
-                at += 1;
+        let mut have: usize = 0;
+        for byte in &mut out[..self.width.room(self.list.len())] {
+            while have < 8 {
+                // behind the last field, zeros
+                let field = entries.next().map_or(0, |x| x.abs_diff(base));
+                acc = (acc << width) + u64::from(field);
+                have += width;
             }
-        }
-        if have > 0 {
-            out[at] = (acc << (8 - have)) as u8;
+            have -= 8;
+            *byte = bits_above(acc, have);
         }
     }
 }

@@ -1,144 +1,123 @@
-use Rattle.std.proofs.Common.{◌≡◌, ℕ, ◌+◌, ◌-◌, ◌*◌, ◌/◌, ◌%◌, ◌^◌, ◌<◌, ◌≤◌, List, ◌++◌, map, length, get_or, drop, set, ℤ, pos, sym, ap, ◌∙◌, subst, ap₂, arith, lit<, w32, SFits, rules}
+use Rattle.std.proofs.Common.{◌≡◌, ℕ, ◌+◌, ◌-◌, ◌/◌, ◌%◌, ◌^◌, ◌<◌, ◌≤◌, ⊎_elim, List, ◌∷◌, ◌++◌, map, length, get_or, take, drop, set, ℤ, pos, Some, None, Option, Bor, Iter, sym, ap, ◌∙◌, subst, ap₂, arith, rules}
 use Rattle.std.specs.Int.Digits.{AllBelowBase}
-use Rattle.std.proofs.lemmas.Nat.{shl_whole, one_shl, shr_below, shl_below, pow_pos}
+use Rattle.std.specs.Option.{MatchOption}
+use Rattle.std.proofs.Math.Pow.{mod-mod-pow}
+use Rattle.std.proofs.lemmas.Bool.{cases_lt}
+use Rattle.std.proofs.lemmas.Nat.{pow_pos}
 use Rattle.std.proofs.ByRecursion.{All-get_or}
-use Rattle.std.proofs.lemmas.List.{length-map, get_or-map}
-use Rattle.std.proofs.lemmas.Int.{to_z-of_z}
-use Rattle.pack.specs.Fields.{gap, room, laid}
+use Rattle.std.proofs.lemmas.List.{length-map, get_or-map, get_or_past, length-drop, length-take-le, drop_all, drop_more}
+use Rattle.pack.specs.Fields.{gap, room}
 use Rattle.pack.proofs.Least.{holds}
-use Rattle.pack.proofs.Laying.{Laid, laid_none, laid_more, laid-byte, laid-again, laid-over, laid-inside, laid-all, laid-last, below}
+use Rattle.pack.proofs.Laying.{Laid, laid_more, laid-byte, laid-done, shifted-fits, held-more, held-byte}
 use Rattle.pack.proofs.Framed.lay.Goals as goal
 
-module _ (xs : List ℤ) (base : ℤ) (w : ℕ) where
-  spacious : (m : ℕ) → room (length xs) w ≤ m → room (length (map (gap base) xs)) w ≤ m
-  spacious m h = subst (λ (n : ℕ). room n w ≤ m) (sym (length-map xs (gap base))) h
+module _ (xs : List ℤ) (base : ℤ) where
+  none-left : (i f : ℕ) (rest new : List ℤ) → length rest ≡ 0 → new ≡ rest → f ≡ 0 → rest ≡ drop i xs → (f ≡ get_or (map (gap base) xs) i 0) × (new ≡ drop (i + 1) xs)
+  none-left i f rest new none same zero at =
+      let left : length rest ≡ length (drop i xs) = ap length at in
+      let past : length xs ≤ i = omega (arith, length-drop i xs) in (
+        zero ∙ sym (get_or_past (map (gap base) xs) i 0 (omega (arith, length-map xs (gap base)))),
+        same ∙ at ∙ drop_all i xs past ∙ sym (drop_all (i + 1) xs (omega arith)),
+      )
 
-  plainly : (out : List ℕ) → laid w (map (gap base) xs) ++ drop (room (length (map (gap base) xs)) w) out ≡ laid w (map (gap base) xs) ++ drop (room (length xs) w) out
-  plainly out = ap (λ (n : ℕ). laid w (map (gap base) xs) ++ drop (room n w) out) (length-map xs (gap base))
+  one-left : (i f : ℕ) (x : ℤ) (rest new : List ℤ) → rest ≡ x ∷ new → f ≡ gap base x → rest ≡ drop i xs → (f ≡ get_or (map (gap base) xs) i 0) × (new ≡ drop (i + 1) xs)
+  one-left i f x rest new first ef at =
+      let left : length rest ≡ length (drop i xs) = ap length at in
+      let some : length rest ≡ length (x ∷ new) = ap length first in
+      let inside : i < length xs = omega (arith, length-drop i xs) in
+      let both : x ∷ new ≡ get_or xs i (pos 0) ∷ drop (i + 1) xs = sym first ∙ at ∙ drop_more xs i (pos 0) inside in
+      let head : x ≡ get_or xs i (pos 0) = cc in
+      let tail : new ≡ drop (i + 1) xs = cc in
+      (ef ∙ ap (gap base) head ∙ sym (get_or-map (gap base) xs i (pos 0) 0 inside), tail)
 
-  -- there is room for a byte more
-  inside : (old mid out : List ℕ) (i at have acc : ℕ) → Laid w (map (gap base) xs) mid out (i + 1) at have acc → length mid ≡ length old → room (length xs) w ≤ length old →
-      i < length xs → 8 ≤ have → at < length out
-  inside old mid out i at have acc h same space some full =
-      let long : length (map (gap base) xs) ≡ length xs = length-map xs (gap base) in
-      laid-inside w (map (gap base) xs) mid out (i + 1) at have acc h (omega arith) (spacious (length out) (omega (arith, h.long))) (omega arith)
+  -- the field that comes next, a zero where none is left
+  stepped : (r : Option (Bor ℤ)) (i f : ℕ) (s t : Iter ℤ) → MatchOption r ((length s.rest.now ≡ 0) × (t ≡ s)) (λ x. s.rest.now ≡ x.now ∷ t.rest.now) →
+      MatchOption r (f ≡ 0) (λ x. f ≡ gap base x.now) → s.rest.now ≡ drop i xs → (f ≡ get_or (map (gap base) xs) i 0) × (t.rest.now ≡ drop (i + 1) xs)
+  stepped None i f s t step value at = none-left i f s.rest.now t.rest.now step.0 (ap (λ (u : Iter ℤ). u.rest.now) step.1) value at
+  stepped (Some x) i f s t step value at = one-left i f x.now s.rest.now t.rest.now step value at
 
-pub loop-x-init : goal.loop-x-init
-loop-x-init c = (laid_none c.args.self.now.width _ c.args.out.now, lit< tt)
+  below : (w i : ℕ) → AllBelowBase (2 ^ w) (map (gap base) xs) → get_or (map (gap base) xs) i 0 < 2 ^ w
+  below w i small =
+      let fs : List ℕ = map (gap base) xs in
+      ⊎_elim (λ (h : i < length fs). All-get_or (λ x. x < 2 ^ w) fs i 0 h small)
+      (λ (h : length fs ≤ i). subst (λ (f : ℕ). f < 2 ^ w) (sym (get_or_past fs i 0 h)) (pow_pos w)) (cases_lt i (length fs))
 
--- the bits held back, with a field more
-grown : (c : goal.After-from) →
-    Laid c.args.self.now.width (map (gap c.args.self.now.base) c.args.self.now.list.now) c.args.out.now c.loop-x.out
-    (c.loop-x.x-index + 1) c.loop-x.at (c.loop-x.have + c.args.self.now.width) (c.loop-x.acc * 2 ^ c.args.self.now.width % 2 ^ 64 + c.from.result)
-grown c =
-    let b : ℤ = c.args.self.now.base in
+next-value : (c : goal.After-from) → MatchOption c.next.result (c.from.result ≡ 0) (λ x. c.from.result ≡ gap c.args.self.now.base x.now)
+next-value c =
+    let value : MatchOption c.next.result (c.map_or-field.result ≡ 0) (λ x. c.map_or-field.result ≡ gap c.args.self.now.base x.now) = search rules in
+    subst (λ (f : ℕ). MatchOption c.next.result (f ≡ 0) (λ x. f ≡ gap c.args.self.now.base x.now)) (sym c.from.ensures) value
+
+next-field : (c : goal.After-from) (k : ℕ) → c.loop-have.entries.rest.now ≡ drop k c.args.self.now.list.now →
+    (c.from.result ≡ get_or (map (gap c.args.self.now.base) c.args.self.now.list.now) k 0) × (c.next.new.self.rest.now ≡ drop (k + 1) c.args.self.now.list.now)
+next-field c k at = stepped c.args.self.now.list.now c.args.self.now.base c.next.result k c.from.result c.loop-have.entries c.next.new.self c.next.ensures.steps (next-value c) at
+
+small : (c : goal.After-from) → c.from.result < 2 ^ c.args.self.now.width.bits
+small c =
     let xs : List ℤ = c.args.self.now.list.now in
-    let fs : List ℕ = map (gap b) xs in
-    let i : ℕ = c.loop-x.x-index in
-    let fits : SFits w32 (get_or xs i (pos 0)) = search rules in
-    let long : length fs ≡ length xs = length-map xs (gap b) in
-    let word : SFits w32 b = search rules in
-    let f : c.from.result ≡ get_or fs i 0 =
-    c.from.ensures ∙ c.abs_diff.ensures ∙ ap₂ (λ (x z : ℤ). gap z x) (to_z-of_z w32 _ fits) (to_z-of_z w32 b word) ∙ sym (get_or-map (gap b) xs i (pos 0) 0 c.loop-x-test.true) in
-    let small : AllBelowBase (2 ^ c.args.self.now.width) fs = holds fs c.args.self.now.width c.args.self.now.narrowest in
-    let narrow : c.loop-x.have + c.args.self.now.width ≤ 64 = omega (arith, c.loop-x.invariant.1, c.args.self.now.narrow) in
-    let shifted = shl_whole c.loop-x.acc c.loop-x.have c.args.self.now.width 64 c.loop-x.invariant.0.low narrow in
-    let here : get_or fs i 0 < 2 ^ c.args.self.now.width = All-get_or (λ x. x < 2 ^ c.args.self.now.width) fs i 0 (omega arith) small in
-    subst (λ (m : ℕ). Laid c.args.self.now.width fs c.args.out.now c.loop-x.out (i + 1) c.loop-x.at (c.loop-x.have + c.args.self.now.width) (m + c.from.result)) (sym shifted)
-    (laid_more c.args.self.now.width fs c.args.out.now c.loop-x.out i c.loop-x.at c.loop-x.have c.loop-x.acc c.from.result c.loop-x.invariant.0 (omega arith) f (omega arith))
+    let b : ℤ = c.args.self.now.base in
+    let w : ℕ = c.args.self.now.width.bits in
+    let k = c.loop-have.invariant.0 c.loop-byte.byte-items c.loop-byte.invariant.0 c.loop-byte.invariant.1.0 c.loop-byte.invariant.1.1 in
+    let f = next-field c k.0 k.1.1 in
+    subst (λ (m : ℕ). m < 2 ^ w) (sym f.0) (below xs b w k.0 (holds (map (gap b) xs) w c.args.self.now.narrowest))
 
 pub overflow_add-acc : goal.overflow_add-acc
 overflow_add-acc c =
-    let top = below _ _ 64 (grown c).low (omega (arith, c.loop-x.invariant.1, c.args.self.now.narrow)) in
-    record { fits = top }
-
-pub overflow_add-have : goal.overflow_add-have
-overflow_add-have c = record { fits = omega (arith, c.loop-x.invariant.1, c.args.self.now.narrow) }
-
-pub loop-have-init : goal.loop-have-init
-loop-have-init c = (laid-again c.args.self.now.width _ c.args.out.now _ _ _ _ _ (grown c), omega (arith, c.loop-x.invariant.1, c.args.self.now.narrow), omega arith)
-
-pub bits_above-requires : goal.bits_above-requires
-bits_above-requires c =
-    let parts : c.loop-have.have ≡ 8 + (c.loop-have.have - 8) = omega (arith, c.loop-have-test.true) in
-    (omega (arith, c.loop-have.invariant.1), shr_below c.loop-have.acc 8 (c.loop-have.have - 8) (subst (λ (k : ℕ). c.loop-have.acc < 2 ^ k) parts c.loop-have.invariant.0.low))
-
-pub bounds-out-at : goal.bounds-out-at
-bounds-out-at c =
-    inside c.args.self.now.list.now c.args.self.now.base c.args.self.now.width c.args.out.now c.loop-x.out c.loop-have.out c.loop-x.x-index c.loop-have.at c.loop-have.have c.loop-have.acc c.loop-have.invariant.0 c.loop-x.invariant.0.long c.requires c.loop-x-test.true c.loop-have-test.true
-
-pub overflow_cast-acc-in-loop-have : goal.overflow_cast-acc-in-loop-have
-overflow_cast-acc-in-loop-have c = record { fits = omega (arith, c.loop-have.invariant.1) }
-
-pub overflow_shl-acc-in-loop-have : goal.overflow_shl-acc-in-loop-have
-overflow_shl-acc-in-loop-have c = omega (arith, c.loop-have.invariant.1)
-
-pub nonzero_rem-acc : goal.nonzero_rem-acc
-nonzero_rem-acc c = omega (arith, one_shl (c.loop-have.have - 8) 64 (omega (arith, c.loop-have.invariant.1)), pow_pos (c.loop-have.have - 8))
-
-pub overflow_add-at : goal.overflow_add-at
-overflow_add-at c =
-    let h = inside c.args.self.now.list.now c.args.self.now.base c.args.self.now.width c.args.out.now c.loop-x.out c.loop-have.out c.loop-x.x-index c.loop-have.at c.loop-have.have c.loop-have.acc c.loop-have.invariant.0 c.loop-x.invariant.0.long c.requires c.loop-x-test.true c.loop-have-test.true in
-    record { fits = omega (arith, c.loop-have.invariant.0.long, c.loop-x.invariant.0.long) }
+    record { fits = shifted-fits c.loop-have.acc c.args.self.now.width.bits c.from.result (omega (arith, c.args.self.now.width.narrow)) (small c) }
 
 pub loop-have-preserved : goal.loop-have-preserved
 loop-have-preserved c =
-    let one = one_shl (c.loop-have.have - 8) 64 (omega (arith, c.loop-have.invariant.1)) in
-    let next = laid-byte c.args.self.now.width _ c.loop-x.out c.loop-have.out _ c.loop-have.at c.loop-have.have c.loop-have.acc c.loop-have.invariant.0 c.loop-have-test.true
-    (inside c.args.self.now.list.now c.args.self.now.base c.args.self.now.width c.args.out.now c.loop-x.out c.loop-have.out c.loop-x.x-index c.loop-have.at c.loop-have.have c.loop-have.acc c.loop-have.invariant.0 c.loop-x.invariant.0.long c.requires c.loop-x-test.true c.loop-have-test.true) in
-    let fs : List ℕ = map (gap c.args.self.now.base) c.args.self.now.list.now in
-    let Next : ℕ → ℕ → Type 0 =
-    λ byte m. Laid c.args.self.now.width fs c.loop-x.out (set c.loop-have.out c.loop-have.at byte) (c.loop-x.x-index + 1) (c.loop-have.at + 1) (c.loop-have.have - 8) (c.loop-have.acc % m) in
-    let byte : c.bits_above.result ≡ c.loop-have.acc / 2 ^ (c.loop-have.have - 8) = c.bits_above.ensures in (
-      subst (Next c.bits_above.result) (sym one) (subst (λ (v : ℕ). Next v (2 ^ (c.loop-have.have - 8))) (sym byte) next),
-      omega (arith, c.loop-have.invariant.1),
-      omega (arith, c.loop-have.invariant.2),
+    let xs : List ℤ = c.args.self.now.list.now in
+    let fs : List ℕ = map (gap c.args.self.now.base) xs in
+    let w : ℕ = c.args.self.now.width.bits in
+    let at : ℕ = c.loop-byte.byte-index in
+    let wide : ℕ = c.loop-have.have + w in
+    let few : wide ≤ 64 = omega (arith, c.loop-have-test.true, c.args.self.now.width.narrow) in (
+      λ bytes i a b.
+          let k = c.loop-have.invariant.0 bytes i a b in
+          let f = next-field c k.0 k.1.1 in (
+            k.0 + 1,
+            (
+              subst (Laid w fs bytes (k.0 + 1) at wide) (sym (held-more c.loop-have.acc c.loop-have.have w c.from.result few (small c)))
+                  (laid_more w fs bytes k.0 at c.loop-have.have (c.loop-have.acc % 2 ^ c.loop-have.have) c.from.result k.1.0 f.0 (small c)),
+              f.1,
+            ),
+          ),
+      omega (arith, c.loop-have-test.true, c.args.self.now.width.narrow),
     )
 
-pub loop-x-preserved : goal.loop-x-preserved
-loop-x-preserved c = (
-  laid-over c.args.self.now.width _ c.args.out.now c.loop-x.out c.loop-have.out _ c.loop-x.at c.loop-have.at c.loop-have.have c.loop-have.acc
-      c.loop-have.invariant.0 c.loop-have.invariant.2 c.loop-x.invariant.0.rest c.loop-x.invariant.0.long,
-  omega (arith, c.loop-have-test.false),
-)
+pub loop-byte-preserved : goal.loop-byte-preserved
+loop-byte-preserved c =
+    let fs : List ℕ = map (gap c.args.self.now.base) c.args.self.now.list.now in
+    let w : ℕ = c.args.self.now.width.bits in
+    let bytes : List ℕ = c.loop-byte.byte-items in
+    let at : ℕ = c.loop-byte.byte-index in
+    let less : ℕ = c.loop-have.have - 8 in
+    let k = c.loop-have.invariant.0 bytes c.loop-byte.invariant.0 c.loop-byte.invariant.1.0 c.loop-byte.invariant.1.1 in
+    let acc : ℕ = c.loop-have.acc in
+    let next = laid-byte w fs bytes k.0 at c.loop-have.have (acc % 2 ^ c.loop-have.have) k.1.0 (omega (arith, c.loop-have-test.false)) (omega (arith, c.loop-byte-test.true, c.loop-byte.auto.byte-items)) in
+    let parts : c.loop-have.have ≡ 8 + less = omega (arith, c.loop-have-test.false) in
+    let byte : acc % 2 ^ c.loop-have.have / 2 ^ less ≡ c.bits_above.result =
+    ap (λ (k : ℕ). acc % 2 ^ k / 2 ^ less) parts ∙ held-byte acc less ∙ sym c.bits_above.ensures in
+    let rest : acc % 2 ^ c.loop-have.have % 2 ^ less ≡ acc % 2 ^ less = ap (λ (k : ℕ). acc % 2 ^ k % 2 ^ less) parts ∙ mod-mod-pow acc 8 less in (
+      k.0,
+      (
+        subst (Laid w fs (set bytes at c.bits_above.result) k.0 (at + 1) less) rest
+            (subst (λ (v : ℕ). Laid w fs (set bytes at v) k.0 (at + 1) less (acc % 2 ^ c.loop-have.have % 2 ^ less)) byte next),
+        k.1.1,
+        omega (arith, c.loop-have.invariant.1),
+      ),
+    )
 
-pub overflow_sub-out : goal.overflow_sub-out
-overflow_sub-out c = omega (arith, c.loop-x.invariant.1)
-
--- the last bits are those of one byte
-last : (acc have : ℕ) → acc < 2 ^ have → have < 8 → (acc * 2 ^ (8 - have) % 2 ^ 64 ≡ acc * 2 ^ (8 - have)) × (acc * 2 ^ (8 - have) < 2 ^ 8)
-last acc have low few =
-    let eight : have + (8 - have) ≡ 8 = omega arith in
-    (shl_whole acc have (8 - have) 64 low (omega arith), subst (λ (k : ℕ). acc * 2 ^ (8 - have) < 2 ^ k) eight (shl_below acc have (8 - have) low))
-
-pub overflow_cast-out-then-have-gt0 : goal.overflow_cast-out-then-have-gt0
-overflow_cast-out-then-have-gt0 c =
-    let both = last c.loop-x.acc c.loop-x.have c.loop-x.invariant.0.low c.loop-x.invariant.1 in
-    record { fits = omega arith }
-
-pub bounds-out-at-then-have-gt0 : goal.bounds-out-at-then-have-gt0
-bounds-out-at-then-have-gt0 c =
+pub returns : goal.returns
+returns c =
     let xs : List ℤ = c.args.self.now.list.now in
-    let long = length-map xs (gap c.args.self.now.base) in
-    laid-inside c.args.self.now.width _ c.args.out.now c.loop-x.out c.loop-x.x-index c.loop-x.at c.loop-x.have c.loop-x.acc
-    c.loop-x.invariant.0 (omega (arith, c.loop-x.auto.x-index-end)) (spacious xs c.args.self.now.base c.args.self.now.width _ (omega (arith, c.requires, c.loop-x.invariant.0.long))) c.if-have-gt0.true
-
-pub returns-then-have-gt0 : goal.returns-then-have-gt0
-returns-then-have-gt0 c =
-    let xs : List ℤ = c.args.self.now.list.now in
-    let long = length-map xs (gap c.args.self.now.base) in
-    let both = last c.loop-x.acc c.loop-x.have c.loop-x.invariant.0.low c.loop-x.invariant.1 in
-    ap (set c.loop-x.out c.loop-x.at) both.0
-    ∙ laid-last c.args.self.now.width _ c.args.out.now c.loop-x.out c.loop-x.x-index c.loop-x.at c.loop-x.have c.loop-x.acc c.loop-x.invariant.0
-    (omega (arith, c.loop-x.auto.x-index-end, c.loop-x-test.false)) c.if-have-gt0.true c.loop-x.invariant.1
-    (spacious xs c.args.self.now.base c.args.self.now.width _ (omega (arith, c.requires, c.loop-x.invariant.0.long)))
-    ∙ plainly xs c.args.self.now.base c.args.self.now.width c.args.out.now
-
-pub returns-else-have-gt0 : goal.returns-else-have-gt0
-returns-else-have-gt0 c =
-    let xs : List ℤ = c.args.self.now.list.now in
-    let long = length-map xs (gap c.args.self.now.base) in
-    laid-all c.args.self.now.width _ c.args.out.now c.loop-x.out c.loop-x.x-index c.loop-x.at c.loop-x.have c.loop-x.acc c.loop-x.invariant.0
-    (omega (arith, c.loop-x.auto.x-index-end, c.loop-x-test.false)) (omega (arith, c.if-have-gt0.false))
-    (spacious xs c.args.self.now.base c.args.self.now.width _ (omega (arith, c.requires, c.loop-x.invariant.0.long)))
-    ∙ plainly xs c.args.self.now.base c.args.self.now.width c.args.out.now
+    let fs : List ℕ = map (gap c.args.self.now.base) xs in
+    let w : ℕ = c.args.self.now.width.bits in
+    let bytes : List ℕ = c.loop-byte.byte-items in
+    let end : c.loop-byte.byte-index ≡ length bytes = omega (arith, c.loop-byte-test.false, c.loop-byte.auto.byte-index-end, c.loop-byte.auto.byte-items) in
+    let fields : length fs ≡ length xs = length-map xs (gap c.args.self.now.base) in
+    let taken : length (take c.room.result c.args.out.now) ≡ c.room.result = length-take-le c.room.result c.args.out.now (omega (arith, c.requires, c.room.ensures)) in
+    let size : length bytes ≡ room (length fs) w = c.loop-byte.auto.byte-items ∙ taken ∙ c.room.ensures ∙ ap (λ (n : ℕ). room n w) (sym fields) in
+    let last = subst (λ (m : ℕ). Laid w fs bytes c.loop-byte.invariant.0 m c.loop-byte.have (c.loop-byte.acc % 2 ^ c.loop-byte.have)) end c.loop-byte.invariant.1.0 in
+    ap₂ (λ (ys zs : List ℕ). ys ++ zs) (laid-done w fs bytes c.loop-byte.invariant.0 c.loop-byte.have (c.loop-byte.acc % 2 ^ c.loop-byte.have) last size)
+    (ap (λ (m : ℕ). drop m c.args.out.now) c.room.ensures)

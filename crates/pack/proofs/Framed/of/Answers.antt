@@ -3,10 +3,6 @@ use Rattle.std.proofs.lemmas.Int.{to_z-of_z}
 use Rattle.pack.proofs.Least.{least_is}
 use Rattle.pack.proofs.Framed.of.Goals as goal
 
-pub invariant_of-result : goal.invariant_of-result
-invariant_of-result c = record {
-  counted = c.requires;
-  lowest = to_z-of_z w32 c.smallest-base.result (record { sfits = c.smallest-base.type_inv }) ∙ least_is _ _ c.smallest-base.ensures.bound c.smallest-base.ensures.among;
-  narrowest = c.width_over-width.ensures.value;
-  narrow = c.width_over-width.ensures.narrow;
-}
+pub invariant_of-result-clause-lowest : goal.invariant_of-result-clause-lowest
+invariant_of-result-clause-lowest c =
+    to_z-of_z w32 c.smallest-base.result (record { sfits = c.smallest-base.type_inv }) ∙ least_is _ _ c.smallest-base.ensures.bound c.smallest-base.ensures.among

@@ -1,0 +1,18 @@
+-- A digit by its place, that each lies below the base, and the number of two lists in a row.
+use Rattle.std.specs.Prelude.{◌≡◌, ℕ, zero, suc, ◌+◌, ◌-◌, ◌*◌, ◌/◌, ◌%◌, ◌^◌, ◌<◌, List, ◌++◌, length, slice_index}
+use Rattle.std.proofs.Common.{ap, ◌∙◌, arith, mod-lt}
+use Rattle.std.specs.Int.Digits.{number_from_digits, AllBelowBase}
+use Rattle.std.proofs.lemmas.Int.Digits.{number_after_append}
+use Rattle.pack.specs.Digits.{digits, number_after-is}
+
+pub slice_index-digits : (b k n i : ℕ) → i < k → slice_index (digits b k n) i ≡ n / b ^ (k - 1 - i) % b
+slice_index-digits b zero n i h = absurd (omega arith)
+slice_index-digits b (suc k) n zero h = ap (λ (j : ℕ). n / b ^ j % b) (omega arith)
+slice_index-digits b (suc k) n (suc i) h = slice_index-digits b k n i (omega arith) ∙ ap (λ (j : ℕ). n / b ^ j % b) (omega arith)
+
+pub under-digits : (b k n : ℕ) → 0 < b → AllBelowBase b (digits b k n)
+under-digits b zero n h = tt
+under-digits b (suc k) n h = (mod-lt (n / b ^ k) h, under-digits b k n h)
+
+pub number_append : (b : ℕ) (xs ys : List ℕ) → number_from_digits b (xs ++ ys) ≡ number_from_digits b xs * b ^ length ys + number_from_digits b ys
+number_append b xs ys = number_after_append b 0 xs ys ∙ number_after-is b (number_from_digits b xs) ys
