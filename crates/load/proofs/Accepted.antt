@@ -1,13 +1,13 @@
 -- The points of an accepted file, once they are filled axis by axis. Assumes nothing.
-use Rattle.std.proofs.Common.{◌≡◌, ℕ, zero, suc, ◌+◌, ◌≤◌, ltb, List, [], ◌∷◌, ◌++◌, length, take, drop, ℤ, Ok, Err, Result, sym, refl, ap, ◌∙◌, subst}
+use Rattle.std.proofs.Common.{◌≡◌, ℕ, zero, suc, ◌+◌, ◌≤◌, ltb, List, ◌++◌, length, take, drop, ℤ, Ok, Err, Result, sym, refl, ap, ◌∙◌, subst, is_ok, true}
 use Rattle.std.specs.List.{AllByRecursion}
 use Rattle.std.proofs.lemmas.Bool.{cond_both}
 use Rattle.refusal.specs.declared.Why.{Why}
 use Rattle.refusal.specs.declared.Refusal.{Refusal}
 use Rattle.kinds.specs.Kind.{KindMeaning}
-use Rattle.predict.specs.declared.Before.{Before}
 use Rattle.predict.specs.Predictor.{PredictorMeaning}
-use Rattle.predict.specs.Residues.{start, after, restored, values_from, values}
+use Rattle.predict.specs.Residues.{start, values}
+use Rattle.predict.proofs.Undone.{length-values}
 use Rattle.pack.specs.Packing.{ReadingMeaning}
 use Rattle.range.specs.Scale.{Scale}
 use Rattle.panel.specs.Panel.{Axis, Panel}
@@ -19,11 +19,6 @@ use Rattle.load.proofs.Firsts.{apart}
 use Rattle.load.proofs.Points.{points-are}
 
 module _ (m : PredictorMeaning) (q : ReadingMeaning) (n : ℕ) where
-  length-values : (i : ℕ) (b : Before) (rs : List ℤ) → length (values_from m i b rs) ≡ length rs
-  unfolding values_from
-  length-values i b [] = refl
-  length-values i b (r ∷ rs) = ap suc (length-values (i + 1) (after b (restored m i b r)) rs)
-
   abbrev Sized : Result (List ℤ) Refusal → Type 0
   Sized (Ok cs) = length cs ≡ n
   Sized (Err e) = Unit {0}
@@ -37,7 +32,7 @@ module _ (m : PredictorMeaning) (q : ReadingMeaning) (n : ℕ) where
   Full j (Err e) = Unit {0}
 
   undone-sized : (at : ℕ) (s : Scale) (body : List ℕ) (r : Result (List ℤ) Why) → q.reads n body ≡ r → Sized (undone m q n at s r)
-  undone-sized at s body (Ok rs) e = cond_both (all_codes s (values m rs)) _ _ Sized (λ _. length-values 0 start rs ∙ q.counts n body rs e) (λ _. tt)
+  undone-sized at s body (Ok rs) e = cond_both (all_codes s (values m rs)) _ _ Sized (λ _. length-values m 0 start rs ∙ q.counts n body rs e) (λ _. tt)
   undone-sized at s body (Err k) e = tt
 
   body-sized : (at : ℕ) (s : Scale) (len : ℕ) (bs : List ℕ) → Sized (body_at m q n at s len bs)
@@ -115,3 +110,6 @@ placed_all {P} k m q file old out n room c fill =
     let points : out ≡ placed k (record { count = n; axes = x.panel }) ++ drop n old =
     fill ∙ ap (λ r. fill_by k 0 r old) x.axes_are ∙ points-are k x.panel n old f.0 f.1 room in
     ap (λ (ps : List P). (Ok n, ps)) points ∙ sym (ap (λ r. filled k r old) x.reads)
+
+pub axes_accepted : (m : PredictorMeaning) (q : ReadingMeaning) (axes room : ℕ) (file : List ℕ) (n : ℕ) (r : Rest) → count_of (judged m q axes room file) ≡ Ok n → r ≡ (drop 8 file, 8) → is_ok (axes_at m q n axes r) ≡ true
+axes_accepted m q axes room file n r c head = ap (λ p. is_ok (axes_at m q n axes p)) head ∙ ap is_ok (accepted m q axes room file n c).axes_are

@@ -1,5 +1,6 @@
 -- One axis after another. Assumes nothing.
-use Rattle.std.proofs.Common.{◌≡◌, ℕ, suc, ◌+◌, Bool, true, false, cond, ltb, List, [], length, take, drop, ℤ, Ok, Err, Result, sym, refl, ap, ◌∙◌, subst, is_ok, true≢false, arith}
+use Rattle.std.proofs.Common.{◌≡◌, ℕ, suc, ◌+◌, ◌-◌, ◌<◌, Bool, true, false, cond, ltb, List, [], length, take, drop, ℤ, Ok, Err, Result, sym, refl, ap, ◌∙◌, subst, is_ok, true≢false, arith}
+use Rattle.std.specs.Result.{IsOk}
 use Rattle.std.proofs.lemmas.List.{drop-drop}
 use Rattle.refusal.specs.declared.Why.{Why}
 use Rattle.refusal.specs.declared.Why.TheVariants.{Truncated, Code}
@@ -92,10 +93,18 @@ module _ (Q : Type 0) (m : PredictorMeaning) (q : ReadingMeaning) (n : ℕ) wher
   pub walks : (k j : ℕ) (r : Rest) → k ≡ suc j → past_of (axes_at m q n k r) ≡ and_then (opened q n r) (goes_on j)
   walks k j r e = ap past_of (axes_opened k j r e) ∙ by_opened j (opened q n r)
 
-  module _ (k j : ℕ) (r : Rest) (one : k ≡ suc j) where
-    pub walk_refused : (e : Refusal) → Err e ≡ opened {Q = Q} q n r → Err e ≡ past_of (axes_at m q n k r)
-    walk_refused e h = sym (walks k j r one ∙ ap (λ u. and_then u (goes_on j)) (sym h))
+  pub walk_refused : (k : ℕ) (r : Rest) (e : Refusal) → 0 < k → Err e ≡ opened {Q = Q} q n r → Err e ≡ past_of (axes_at m q n k r)
+  walk_refused k r e some h =
+      let one : k ≡ suc (k - 1) = omega (arith, some) in
+      sym (walks k (k - 1) r one ∙ ap (λ u. and_then u (goes_on (k - 1))) (sym h))
 
+  pub axis_opens : (k : ℕ) (r : Rest) (u : Result (read.Axis Q × Rest) Refusal) → 0 < k → is_ok (axes_at m q n k r) ≡ true → u ≡ opened q n r → IsOk u
+  axis_opens k r (Ok x) some ok h = refl
+  axis_opens k r (Err e) some ok h =
+      let one : k ≡ suc (k - 1) = omega (arith, some) in
+      absurd (true≢false (sym ok ∙ ap is_ok (axes_opened k (k - 1) r one ∙ ap (λ v. and_then (and_then v by_codes) (with_more (k - 1))) (sym h))))
+
+  module _ (k j : ℕ) (r : Rest) (one : k ≡ suc j) where
     module _ (x : read.Axis Q) (next : Rest) (h : Ok (x, next) ≡ opened q n r) where
       pub walk_on : all_codes x.range (values m x.body) ≡ true → past_of (axes_at m q n j next) ≡ past_of (axes_at m q n k r)
       walk_on sound = sym (walks k j r one ∙ ap (λ u. and_then u (goes_on j)) (sym h) ∙ simp sound)
@@ -106,9 +115,6 @@ module _ (Q : Type 0) (m : PredictorMeaning) (q : ReadingMeaning) (n : ℕ) wher
     module _ (ok : is_ok (axes_at m q n k r) ≡ true) where
       opens : (u : Result (read.Axis Q × Rest) Refusal) → u ≡ opened q n r → axes_at m q n k r ≡ and_then (and_then u by_codes) (with_more j)
       opens u h = axes_opened k j r one ∙ ap (λ v. and_then (and_then v by_codes) (with_more j)) (sym h)
-
-      pub never_refused : (e : Refusal) → Err e ≡ opened {Q = Q} q n r → ⊥
-      never_refused e h = true≢false (sym ok ∙ ap is_ok (opens (Err e) h))
 
       module _ {P : Type 0} (kind : KindMeaning P) (a : ℕ) (ps : List P) (x : read.Axis Q) (next : Rest) (h : Ok (x, next) ≡ opened q n r) where
         -- one axis is filled, and the others are left

@@ -1,78 +1,17 @@
-// An axis of a panel file: its range, and its body as the packing reads it.
-ghost use Rattle.std.specs.Prelude.{◌≡◌, ◌<◌, IfOk, length, slice_index_or, pos, from_bits};
+// An axis of a panel file: its range and its body.
+ghost use Rattle.std.specs.Prelude.{◌≡◌, IfOk, length, from_bits};
 ghost use Rattle.std.specs.Float.{binary32};
-ghost use Rattle.predict.specs.Residues.{restored};
-ghost use Rattle.kinds.specs.Count.{IsVertexCount};
 ghost use Rattle.panel.specs.Judging.{scaled_by};
 ghost use Rattle.load.specs.Opened.{scale_taken, body_taken, body_plain, opened};
 
-use crate::piece::{Due, Piece, Rest};
+use crate::body::Body;
+use crate::piece::{Piece, Rest};
 use kinds::VertexCount;
 use pack::Unpacking;
-use predict::{Before, Predictor};
+use panel::pieces::{LENGTH_SIZE, RANGE_SIZE};
 use range::range::Range;
 use range::words::Words;
 use refusal::{Refusal, Why};
-use std::marker::{Model, PhantomData};
-
-// A body that the packing accepts: it is the list that it means.
-#[derive(Drop)]
-pub struct Body<'a, Q: Unpacking> {
-    bytes: &'a [u8],
-    count: VertexCount,
-    packing: PhantomData<Q>,
-}
-
-impl<'a, Q: Unpacking> Model for Body<'a, Q> {
-    ghost use Rattle.std.specs.Prelude.{◌≡◌, ℤ, List, Ok};
-    ghost use Rattle.pack.specs.Packing.{listed};
-
-    ghost Value = { List ℤ };
-
-    ghost view = { λ b. listed (Q.reading.reads b.count b.bytes.now) };
-
-    ghost invariant = { λ b. Q.reading.reads b.count b.bytes.now ≡ Ok (listed (Q.reading.reads b.count b.bytes.now)) };
-}
-
-impl<'a, Q: Unpacking> Body<'a, Q> {
-    fn judge(bytes: &'a [u8], count: VertexCount) -> Result<Body<'a, Q>, Why>
-        ensures value { result ≡ Q.reading.reads count bytes.now }
-        ensures long { IfOk result (λ b. length b ≡ count) }
-    {
-        Q::judge(bytes, count)?;
-        Ok(Body {
-            bytes,
-            count,
-            packing: PhantomData,
-        })
-    }
-
-    pub fn len(&self) -> usize
-        ensures value { result ≡ length self.now }
-        ensures bound { IsVertexCount result }
-    {
-        self.count.get()
-    }
-
-    // Entry `i`.
-    fn entry(&self, i: usize) -> i32
-        requires { i < length self.now }
-        ensures value { result ≡ slice_index_or self.now i (pos 0) }
-        ensures bound { i < 4096 }
-    {
-        prove!(i < self.count.get());
-        Q::entry(self.bytes, self.count, i)
-    }
-
-    // The code of entry `i`, from the four codes before it.
-    pub fn code<P: Predictor>(&self, i: usize, before: Before) -> i32
-        requires { i < length self.now }
-        ensures { result ≡ restored P.means i before (slice_index_or self.now i (pos 0)) }
-    {
-        let residue = self.entry(i);
-        predict::restored::<P>(i as u16, before, residue)
-    }
-}
 
 // An axis as it is read, and where in the file its body begins.
 #[derive(Drop)]
@@ -108,15 +47,18 @@ fn take_range<'a>(rest: Rest<'a>) -> Result<(Range, Rest<'a>), Refusal>
     ensures { result ≡ scale_taken rest.entry }
 {
     let at = rest.at();
-    let (Piece::Range { bits, lower, upper }, rest) = rest.take(Due::Range)? else {
-        unreachable!()
+    rest.must_have(RANGE_SIZE)?;
+    let Some((Piece::Range(words), rest)) = rest.piece() else {
+        return Err(Why::Letter.at(at));
     };
-    let range = range_of(Words { bits, lower, upper }, at)?;
+    let range = range_of(words, at)?;
     Ok((range, rest))
 }
 
 fn range_of(words: Words, at: usize) -> Result<Range, Refusal>
-    ensures { result ≡ scaled_by at words.bits (from_bits binary32 words.lower) (from_bits binary32 words.upper) }
+    ensures { let lower = from_bits binary32 words.lower in
+        let upper = from_bits binary32 words.upper in
+        result ≡ scaled_by at words.bits lower upper }
 {
     Range::try_from(words).map_err(|why| why.at(at))
 }
@@ -125,11 +67,14 @@ fn range_of(words: Words, at: usize) -> Result<Range, Refusal>
 fn take_body<'a>(rest: Rest<'a>) -> Result<(&'a [u8], usize, Rest<'a>), Refusal>
     ensures { body_plain result ≡ body_taken rest.entry }
 {
-    let (Piece::Length(n), rest) = rest.take(Due::Length)? else {
-        unreachable!()
+    let at = rest.at();
+    rest.must_have(LENGTH_SIZE)?;
+    let Some((Piece::Length(n), rest)) = rest.piece() else {
+        return Err(Why::Letter.at(at));
     };
-    let (Piece::Body { bytes, offset }, rest) = rest.take(Due::Body(n as usize))? else {
-        unreachable!()
+    let at = rest.at();
+    let Some((Piece::Body { bytes, offset }, rest)) = rest.body(n as usize) else {
+        return Err(Why::Truncated.at(at));
     };
     Ok((bytes, offset, rest))
 }

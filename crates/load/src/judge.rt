@@ -1,13 +1,14 @@
 // Judges a panel file, piece by piece: the first piece with a fault is told, and of its faults the smallest number.
-ghost use Rattle.std.specs.Prelude.{◌≡◌, ◌≤◌, ℕ, IfOk, OnOk, drop, length};
+ghost use Rattle.std.specs.Prelude.{◌≡◌, ◌≤◌, IfOk, length};
 ghost use Rattle.panel.specs.Judging.{axes_at, judged, counted as counted_in, end_at};
 ghost use Rattle.load.specs.Steps.{count_of, head_taken, past_of, behind_head};
 
 use crate::axis::Axis;
-use crate::piece::{Due, Piece, Rest};
+use crate::piece::{Piece, Rest};
 use kinds::{PointKind, VertexCount};
 use pack::Unpacking;
-use predict::{Before, Predictor};
+use panel::pieces::{END_SIZE, HEAD_SIZE};
+use predict::Predictor;
 use refusal::{Refusal, Why};
 
 // A whole file, for a point list of so much room: how many vertices it has.
@@ -16,7 +17,7 @@ pub fn file<K: PointKind, P: Predictor, Q: Unpacking>(
     file: &[u8],
     room: usize,
 ) -> Result<VertexCount, Refusal>
-    ensures value { result ≡ count_of (judged P.Predictor.means Q.Unpacking.reading K.PointKind.kind.axes room file.now) }
+    ensures value { result ≡ count_of (judged P.means Q.reading K.kind.axes room file.now) }
     ensures count { IfOk result (λ n. (n ≤ room) × (8 ≤ length file.now)) }
 {
     let (n, rest) = head::<K, P, Q>(file, room)?;
@@ -30,7 +31,7 @@ fn behind_head<P: Predictor, Q: Unpacking>(
     count: usize,
     n: VertexCount,
 ) -> Result<(), Refusal>
-    ensures { result ≡ behind_head P.Predictor.means Q.Unpacking.reading n count rest.entry }
+    ensures { result ≡ behind_head P.means Q.reading n count rest.entry }
 {
     let rest = axes::<P, Q>(rest, count, n)?;
     end(rest)
@@ -41,20 +42,25 @@ fn head<'a, K: PointKind, P: Predictor, Q: Unpacking>(
     file: &'a [u8],
     room: usize,
 ) -> Result<(VertexCount, Rest<'a>), Refusal>
-    ensures value { result ≡ head_taken K.PointKind.kind.axes P.Predictor.means.number Q.Unpacking.reading.number room file.now }
+    ensures value { let axes = K.kind.axes in
+        result ≡ head_taken axes P.means.number Q.reading.number room file.now }
     ensures count { IfOk result (λ x. (x.0 ≤ room) × (8 ≤ length file.now)) }
 {
-    let (
-        Piece::Header {
-            axes,
-            predictor,
-            packing,
-            count,
-        },
-        rest,
-    ) = Rest::of(file, 0).take(Due::Header)?
+    let rest = Rest::of(file, 0);
+    rest.must_have(HEAD_SIZE)?;
+    let Some(
+        (
+            Piece::Header {
+                axes,
+                predictor,
+                packing,
+                count,
+            },
+            rest,
+        ),
+    ) = rest.piece()
     else {
-        unreachable!()
+        return Err(Why::Letter.at(0));
     };
     if usize::from(axes) != K::AXES {
         return Err(Why::AxisCount.at(0));
@@ -83,24 +89,22 @@ fn counted(n: usize, room: usize) -> Result<VertexCount, Refusal>
 }
 
 // Q, V and a body for each axis: what follows them.
+#[tactic(auto, using(crate::proofs::Walk::walk_refused, crate::proofs::Walk::no_axes))]
 fn axes<'a, P: Predictor, Q: Unpacking>(
     rest: Rest<'a>,
     count: usize,
     n: VertexCount,
 ) -> Result<Rest<'a>, Refusal>
-    ensures { result ≡ past_of (axes_at P.Predictor.means Q.Unpacking.reading n count rest.entry) }
+    ensures { result ≡ past_of (axes_at P.means Q.reading n count rest.entry) }
 {
     let mut left = rest;
     'judged: {
         for _ in 0..count {
             let (axis, after) = Axis::<Q>::take(left, n)?;
-            let mut before = Before::none();
-            for i in 0..axis.body.len() {
-                let code = axis.body.code::<P>(i, before);
+            for code in axis.body.codes::<P>() {
                 if !axis.range.is_code(code) {
                     break 'judged Err(Why::Code.at(axis.offset));
                 }
-                before = before.then(code);
             }
             left = after;
         }
@@ -112,7 +116,11 @@ fn axes<'a, P: Predictor, Q: Unpacking>(
 fn end(rest: Rest<'_>) -> Result<(), Refusal>
     ensures { result ≡ end_at rest.entry.1 rest.entry.0 }
 {
-    let (_, rest) = rest.take(Due::End)?;
+    let at = rest.at();
+    rest.must_have(END_SIZE)?;
+    let Some((Piece::End, rest)) = rest.piece() else {
+        return Err(Why::Letter.at(at));
+    };
     if rest.is_empty() {
         Ok(())
     } else {

@@ -2,15 +2,16 @@
 #![tactic(auto)]
 
 mod axis;
+mod body;
 mod judge;
 mod piece;
 mod place;
 
-ghost use Rattle.std.specs.Prelude.{◌≡◌, ℕ, List, length, Result};
+ghost use Rattle.std.specs.Prelude.{◌≡◌, length};
 ghost use Rattle.panel.specs.Placed.{load_of};
 ghost use Rattle.load.specs.Faults.{JudgedByTheFirstFault};
 
-use kinds::PointKind;
+use kinds::{PointKind, VertexCount};
 use pack::Unpacking;
 use predict::Predictor;
 use refusal::Refusal;
@@ -20,11 +21,12 @@ use refusal::Refusal;
 pub fn load<K: PointKind + Copy, P: Predictor, Q: Unpacking>(
     file: &[u8],
     points: &mut [K],
-) -> Result<usize, Refusal>
-    ensures does { ◌≡◌ {A = Result ℕ Refusal × List K} (result, points.new) (load_of K.PointKind.kind P.Predictor.means Q.Unpacking.reading file.now points.old) }
-    ensures first { JudgedByTheFirstFault P.Predictor.means Q.Unpacking.reading K.PointKind.kind.axes (length points.old) file.now result }
+) -> Result<VertexCount, Refusal>
+    ensures does { (result, points.new) ≡ load_of K.kind P.means Q.reading file.now points.old }
+    ensures first { let room = length points.old in
+        JudgedByTheFirstFault P.means Q.reading K.kind.axes room file.now result }
 {
     let n = judge::file::<K, P, Q>(file, points.len())?;
     place::place::<K, P, Q>(file, n, points);
-    Ok(n.get())
+    Ok(n)
 }

@@ -1,5 +1,5 @@
 // Places the vertices of a file that is judged, axis by axis.
-ghost use Rattle.std.specs.Prelude.{◌≡◌, ℕ, ◌≤◌, true, List, length, drop, is_ok, Ok, Result};
+ghost use Rattle.std.specs.Prelude.{◌≡◌, ℕ, ◌≤◌, true, List, length, is_ok, Ok, Result};
 ghost use Rattle.refusal.specs.declared.Refusal.{Refusal};
 ghost use Rattle.predict.specs.Residues.{values};
 ghost use Rattle.panel.specs.Judging.{axes_at, all_codes, judged};
@@ -12,10 +12,12 @@ use crate::piece::Rest;
 use kinds::{PointKind, VertexCount};
 use pack::Unpacking;
 use panel::pieces::HEAD_SIZE;
-use predict::{Before, Predictor};
+use predict::Predictor;
+use std::array;
 
 // The vertices of a file that is accepted. It stands apart, so that its frame is not held while a file is judged.
 #[inline(never)]
+#[tactic(auto, using(crate::proofs::Accepted::axes_accepted))]
 pub fn place<K: PointKind + Copy, P: Predictor, Q: Unpacking>(
     file: &[u8],
     n: VertexCount,
@@ -23,27 +25,29 @@ pub fn place<K: PointKind + Copy, P: Predictor, Q: Unpacking>(
 )
     requires room { n ≤ length points.old }
     requires headed { 8 ≤ length file.now }
-    requires accepted { count_of (judged P.Predictor.means Q.Unpacking.reading K.PointKind.kind.axes (length points.old) file.now) ≡ Ok n }
-    ensures { ◌≡◌ {A = Result ℕ Refusal × List K} (Ok n, points.new) (load_of K.PointKind.kind P.Predictor.means Q.Unpacking.reading file.now points.old) }
+    requires accepted { let room = length points.old in
+        count_of (judged P.means Q.reading K.kind.axes room file.now) ≡ Ok n }
+    ensures { ◌≡◌ {A = Result ℕ Refusal × List K} (Ok n, points.new)
+        (load_of K.kind P.means Q.reading file.now points.old) }
 {
     place_axes::<K, P, Q>(Rest::of(file, HEAD_SIZE), n, points);
 }
 
 // The vertices on each axis, where the axes are accepted.
+#[tactic(auto, using(crate::proofs::Walk::axis_opens, crate::proofs::Walk::no_axes), unfolding(crate::specs::Filling::fill_from))]
 fn place_axes<K: PointKind + Copy, P: Predictor, Q: Unpacking>(
     rest: Rest<'_>,
     n: VertexCount,
     points: &mut [K],
 )
     requires room { n ≤ length points.old }
-    requires accepted { is_ok (axes_at P.Predictor.means Q.Unpacking.reading n K.PointKind.kind.axes rest) ≡ true }
-    ensures { points.new ≡ fill_by K.PointKind.kind 0 (axes_at P.Predictor.means Q.Unpacking.reading n K.PointKind.kind.axes rest.entry) points.old }
+    requires accepted { is_ok (axes_at P.means Q.reading n K.kind.axes rest) ≡ true }
+    ensures { let axes = axes_at P.means Q.reading n K.kind.axes rest.entry in
+        points.new ≡ fill_by K.kind 0 axes points.old }
 {
     let mut left = rest;
     for number in 0..K::AXES {
-        let Ok((axis, after)) = Axis::<Q>::take(left, n) else {
-            unreachable!()
-        };
+        let (axis, after) = Axis::<Q>::take(left, n).unwrap();
         place_axis::<K, P, Q>(axis, number, points);
         left = after;
     }
@@ -56,25 +60,21 @@ fn place_axis<K: PointKind + Copy, P: Predictor, Q: Unpacking>(
     points: &mut [K],
 )
     requires room { length axis.body ≤ length points.old }
-    requires coded { all_codes axis.range (values P.Predictor.means axis.body) ≡ true }
-    ensures { points.new ≡ fill_on K.PointKind.kind number axis.entry.range (values P.Predictor.means axis.entry.body) points.old }
+    requires coded { all_codes axis.range (values P.means axis.body) ≡ true }
+    ensures { let codes = values P.means axis.entry.body in
+        points.new ≡ fill_on K.kind number axis.entry.range codes points.old }
 {
     // taken apart: no write to the points can change them, and their figures are taken once
     let Axis { range, body, .. } = axis;
-    let mut before = Before::none();
-    for i in 0..body.len() {
-        let code = body.code::<P>(i, before);
+    for (i, code) in body.codes::<P>().enumerate() {
         points[i] = at_place(&points[i], number, range.step_of(code));
-        before = before.then(code);
     }
 }
 
 // The point with another coordinate on one axis.
 fn at_place<K: PointKind>(p: &K, axis: usize, v: i32) -> K
-    ensures { result ≡ moved K.PointKind.kind axis v p.now }
+    ensures { result ≡ moved K.kind axis v p.now }
 {
-    let x = if axis == 0 { v } else { p.coordinate(0) };
-    let y = if axis == 1 { v } else { p.coordinate(1) };
-    let z = if axis == 2 { v } else { p.coordinate(2) };
+    let [x, y, z]: [i32; 3] = array::from_fn(|i| if i == axis { v } else { p.coordinate(i) });
     K::make(x, y, z)
 }

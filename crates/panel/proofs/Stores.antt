@@ -1,22 +1,17 @@
 -- What an accepted store tells of its design points, and that its file means their panel.
-use Rattle.std.proofs.Common.{◌≡◌, ℕ, ◌≤◌, true, ltb, List, ◌++◌, length, take, drop, Ok, Result, sym, ap, ◌∙◌, arith}
-use Rattle.std.specs.List.{AllByRecursion}
+use Rattle.std.proofs.Common.{◌≡◌, ℕ, true, ltb, List, ◌++◌, length, take, drop, Ok, Result, sym, ap, ◌∙◌, arith}
 use Rattle.std.specs.Prelude.{is_ok}
 use Rattle.std.proofs.lemmas.List.{take_at}
 use Rattle.std.proofs.lemmas.Bool.{cond_both, ltb-false, false≢true}
 use Rattle.refusal.specs.declared.Why.{Why}
 use Rattle.refusal.specs.declared.Refusal.{Refusal}
 use Rattle.kinds.specs.Kind.{KindMeaning}
-use Rattle.predict.specs.Predictor.{PredictorMeaning}
 use Rattle.kinds.specs.Count.{IsVertexCount}
-use Rattle.pack.specs.Packing.{PackingMeaning}
-use Rattle.range.specs.Scale.{Scale, IsRange}
 use Rattle.panel.specs.Panel.{panel_of, all_inside}
 use Rattle.panel.specs.Written.{written}
-use Rattle.panel.specs.Judging.{refuse, judged}
-use Rattle.panel.specs.Stored.{Outcome, filed, store_of}
+use Rattle.panel.specs.Judging.{refuse}
+use Rattle.panel.specs.Stored.{Outcome, filed}
 use Rattle.panel.specs.Laws.{StoresTheFile}
-use Rattle.panel.proofs.Sound.{every-file-read-back}
 
 no_way : {X : Type 0} (w : Why) (n : ℕ) (old out : List ℕ) → ◌≡◌ {A = Outcome} (refuse w 0, old) (Ok n, out) → X
 no_way w n old out h = absurd (false≢true (ap (λ (x : Outcome). is_ok x.0) h))
@@ -42,11 +37,3 @@ module _ {P : Type 0} (k : KindMeaning P) where
       (λ _. cond_both (all_inside k gs ps) _ _ Q
       (λ inside h. ((omega (arith, ltb-false), omega (arith, ltb-false)), inside, filed-is (written m q (panel_of k gs ps)) old n out h))
       (λ _ h. no_way _ n old out h))))
-
-  -- the bytes of an accepted store are judged as the panel of its points, where the point list has room for any panel
-  pub store-judged : (m : PredictorMeaning) (q : PackingMeaning) (ps : List P) (gs : List Scale) (room : ℕ) (old : List ℕ) (n : ℕ) (out : List ℕ) → AllByRecursion IsRange gs → length gs ≡ 3 →
-      ◌≡◌ {A = Outcome} (store_of k m q ps gs room old) (Ok n, out) → judged m q.reading k.axes 4096 (take n out) ≡ Ok (panel_of k gs ps)
-  store-judged m q ps gs room old n out are three h =
-      let f = stores-the-file m q ps gs room old n out h in
-      let wide : k.axes ≤ length gs = omega (arith, k.few_axes) in
-      ap (judged m q.reading k.axes 4096) f.2 ∙ every-file-read-back k m q ps gs 4096 are f.0 f.0.1 wide f.1

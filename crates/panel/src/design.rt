@@ -1,15 +1,18 @@
 // Design points, and the file that they are stored as.
-ghost use Rattle.std.specs.Prelude.{◌≡◌, ◌≤◌, true, ◌++◌, length, drop};
+ghost use Rattle.std.specs.Prelude.{◌≡◌, ◌≤◌, true, length};
+ghost use Rattle.predict.specs.Residues.{residues};
 ghost use Rattle.kinds.specs.Count.{IsVertexCount};
-ghost use Rattle.panel.specs.Panel.{inside_from, panel_on};
+ghost use Rattle.panel.specs.Panel.{codes_on, inside_from, inside_on, panel_on};
+ghost use Rattle.panel.specs.Stored.{filed};
 ghost use Rattle.panel.specs.Written.{written};
 
-use crate::axis::{OnAxis, are_on};
-use crate::pieces::{END_LETTER, END_SIZE, HEAD_SIZE, head_piece, put};
+use crate::axis::write_axis;
+use crate::pieces::{END_LETTER, END_SIZE, HEAD_SIZE, LENGTH_SIZE, RANGE_SIZE, head_piece, put};
 use kinds::PointKind;
 use pack::Packing;
-use predict::Predictor;
+use predict::{Before, Predictor};
 use range::range::Range;
+use refusal::{Refusal, Why};
 
 // Design points with a range for each axis, in which they lie.
 #[derive(Drop)]
@@ -19,6 +22,16 @@ pub(crate) struct Design<'a, K: PointKind> {
     ghost counted: { IsVertexCount (length points.now) },
     ghost few: { length ranges.now ≤ 3 },
     ghost inside: { inside_from K.kind points.now 0 ranges.now ≡ true },
+}
+
+// Whether points lie in the range of an axis.
+#[tactic(auto, unfolding(crate::specs::Panel::inside_on))]
+fn are_on<K: PointKind>(points: &[K], axis: usize, range: &Range) -> bool
+    ensures { result ≡ inside_on K.kind axis range.now points.now }
+{
+    points
+        .iter()
+        .all(|point| range.holds(point.coordinate(axis)))
 }
 
 // Whether points lie in the range of each axis.
@@ -33,35 +46,25 @@ pub(crate) fn are_inside<K: PointKind>(points: &[K], ranges: &[Range]) -> bool
 }
 
 impl<'a, K: PointKind> Design<'a, K> {
-    // The length of the file.
+    // Writes the file to the front of `file`, if it has room, and answers its length; what follows stays.
     #[tactic(auto, unfolding(crate::specs::Written::written))]
-    pub(crate) fn size<P: Predictor, Q: Packing>(&self, work: &mut [i32]) -> usize
+    pub(crate) fn store<P: Predictor, Q: Packing>(
+        &self,
+        work: &mut [i32],
+        file: &mut [u8],
+    ) -> Result<usize, Refusal>
         requires { length work.old ≡ length self.now.points.now }
         ensures { let panel = panel_on K.kind self.now.ranges.now self.now.points.now in
-            result ≡ length (written P.means Q.means panel) }
+            (result, file.new) ≡ filed (written P.means Q.means panel) file.old }
     {
         let mut size: usize = HEAD_SIZE + END_SIZE;
         for (axis, range) in self.ranges.iter().enumerate() {
-            let part = OnAxis {
-                points: self.points,
-                axis,
-                range,
-            };
-            size += part.size::<P, Q>(work);
+            self.fill::<P>(axis, range, work);
+            size += RANGE_SIZE + LENGTH_SIZE + Q::body_length(work);
         }
-        size
-    }
-
-    // Writes the file to the front of `file`; what follows stays.
-    #[tactic(auto, unfolding(crate::specs::Written::written))]
-    pub(crate) fn write<P: Predictor, Q: Packing>(&self, work: &mut [i32], file: &mut [u8])
-        requires room { length work.old ≡ length self.now.points.now }
-        requires space { let panel = panel_on K.kind self.now.ranges.now self.now.points.now in
-            length (written P.means Q.means panel) ≤ length file.old }
-        ensures { let panel = panel_on K.kind self.now.ranges.now self.now.points.now in
-            let bytes = written P.means Q.means panel in
-            file.new ≡ bytes ++ drop (length bytes) file.old }
-    {
+        if file.len() < size {
+            return Err(Why::NoSpace.into());
+        }
         let head = head_piece(
             self.ranges.len() as u8,
             P::NUMBER,
@@ -71,13 +74,26 @@ impl<'a, K: PointKind> Design<'a, K> {
         put(file, 0, &head);
         let mut at = HEAD_SIZE;
         for (axis, range) in self.ranges.iter().enumerate() {
-            let part = OnAxis {
-                points: self.points,
-                axis,
-                range,
-            };
-            at = part.write::<P, Q>(work, file, at);
+            self.fill::<P>(axis, range, work);
+            at = write_axis::<Q>(range, work, file, at);
         }
         file[at] = END_LETTER;
+        Ok(size)
+    }
+
+    // Fills the work list with what is stored of the points' codes on an axis, by the range in which they lie.
+    fn fill<P: Predictor>(&self, axis: usize, range: &Range, work: &mut [i32])
+        requires room { length work.old ≡ length self.now.points.now }
+        requires inside { inside_on K.kind axis range.now self.now.points.now ≡ true }
+        ensures { work.new ≡ residues P.means (codes_on K.kind axis range.now self.now.points.now) }
+    {
+        // a copy, which no write to the work list can change: its figures are then taken once
+        let range = *range;
+        let mut before = Before::none();
+        for (i, point) in self.points.iter().enumerate() {
+            let code = range.code_of(point.coordinate(axis));
+            work[i] = predict::stored::<P>(i as u16, before, code);
+            before = before.then(code);
+        }
     }
 }

@@ -2,8 +2,6 @@
 #![tactic(auto)]
 
 ghost use Rattle.std.specs.Prelude.{◌≡◌, length};
-ghost use Rattle.range.specs.Scale.{Scale};
-ghost use Rattle.panel.specs.Panel.{all_inside};
 ghost use Rattle.panel.specs.Stored.{store_of};
 ghost use Rattle.panel.specs.Laws.{StoresTheFile, EveryFileReadBack};
 
@@ -50,12 +48,7 @@ pub fn store<K: PointKind, P: Predictor, Q: Packing>(
         points: design,
         ranges,
     };
-    let size = design.size::<P, Q>(work);
-    if file.len() < size {
-        return Err(Why::NoSpace.into());
-    }
-    design.write::<P, Q>(work, file);
-    Ok(size)
+    design.store::<P, Q>(work, file)
 }
 
 // A store that says yes wrote the file of its points, and every such file is read back.

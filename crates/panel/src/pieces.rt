@@ -1,6 +1,5 @@
 // The pieces of a panel file: each begins with its letter, and numbers have their low byte first.
 ghost use Rattle.std.specs.Prelude.{◌≡◌, ◌+◌, ◌≤◌, length};
-ghost use Rattle.range.specs.Scale.{Scale};
 ghost use Rattle.panel.specs.Bytes.{overwritten};
 ghost use Rattle.panel.specs.Written.{head_piece, range_piece, length_piece};
 
@@ -26,14 +25,14 @@ pub const END_LETTER: u8 = b'E';
 
 pub const END_SIZE: usize = 1;
 
-pub(crate) fn head_piece(axes: u8, predictor: u8, packing: u8, count: u32) -> [u8; 8]
+pub(crate) fn head_piece(axes: u8, predictor: u8, packing: u8, count: u32) -> [u8; HEAD_SIZE]
     ensures { result ≡ head_piece axes predictor packing count }
 {
     let [a, b, c, d] = count.to_le_bytes();
     [HEAD_LETTER, axes, predictor, packing, a, b, c, d]
 }
 
-pub(crate) fn range_piece(range: &Range) -> [u8; 10]
+pub(crate) fn range_piece(range: &Range) -> [u8; RANGE_SIZE]
     ensures { result ≡ range_piece range.now }
 {
     let [a, b, c, d] = range.lower_word().to_le_bytes();
@@ -41,7 +40,7 @@ pub(crate) fn range_piece(range: &Range) -> [u8; 10]
     [RANGE_LETTER, range.bits(), a, b, c, d, e, f, g, h]
 }
 
-pub(crate) fn length_piece(length: u32) -> [u8; 5]
+pub(crate) fn length_piece(length: u32) -> [u8; LENGTH_SIZE]
     ensures { result ≡ length_piece length }
 {
     let [a, b, c, d] = length.to_le_bytes();

@@ -1,4 +1,4 @@
-use Rattle.std.proofs.Common.{length, Ok, ap, ◌∙◌}
+use Rattle.std.proofs.Common.{length}
 use Rattle.std.proofs.lemmas.Result.{err_from_is_err_and}
 use Rattle.load.proofs.Reader.{first_told}
 use Rattle.load.proofs.load.Goals as goal
@@ -9,4 +9,4 @@ returns-in_err-n-clause-first g c =
     first_told g.P.Predictor.means g.Q.Unpacking.reading g.K.PointKind.kind.axes (length c.args.points.now) c.args.file.now c.from_residual.result (rw (p.1, p.2) c.in_err-n.ensures.value)
 
 pub returns-clause-first : goal.returns-clause-first
-returns-clause-first g c = first_told g.P.Predictor.means g.Q.Unpacking.reading g.K.PointKind.kind.axes (length c.args.points.now) c.args.file.now _ (ap Ok c.get.ensures.value ∙ c.in_ok-n.ensures.value)
+returns-clause-first g c = first_told g.P.Predictor.means g.Q.Unpacking.reading g.K.PointKind.kind.axes (length c.args.points.now) c.args.file.now _ c.in_ok-n.ensures.value

@@ -1,13 +1,8 @@
-use Rattle.std.proofs.Common.{length, is_ok, ap, ◌∙◌}
+use Rattle.std.proofs.Common.{ap, ◌∙◌}
 use Rattle.panel.specs.Judging.{axes_at}
 use Rattle.load.specs.Filling.{fill_by}
-use Rattle.load.proofs.Accepted.{accepted, placed_all}
+use Rattle.load.proofs.Accepted.{placed_all}
 use Rattle.load.proofs.place.place.Goals as goal
-
-pub place_axes-requires-clause-accepted : goal.place_axes-requires-clause-accepted
-place_axes-requires-clause-accepted g c =
-    let x = accepted g.P.Predictor.means g.Q.Unpacking.reading g.K.PointKind.kind.axes (length c.args.points.now) c.args.file.now c.args.n c.requires.accepted in
-    ap (λ r. is_ok (axes_at g.P.Predictor.means g.Q.Unpacking.reading c.args.n g.K.PointKind.kind.axes r)) c.of.ensures ∙ ap is_ok x.axes_are
 
 pub returns : goal.returns
 returns g c =

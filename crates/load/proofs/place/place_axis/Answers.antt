@@ -1,28 +1,59 @@
-use Rattle.std.proofs.Common.{◌<◌, length, sym, refl, ◌∙◌, arith, w32}
+use Rattle.std.proofs.Common.{◌<◌, ◌^◌, length, inl, sym, ap, ◌∙◌, arith, rules, w32, SFits, length-set}
+use Rattle.std.specs.Iterator.Adapters.{enumerate_source, enumerate_count}
 use Rattle.std.proofs.lemmas.Bool.{and_parts}
 use Rattle.std.proofs.lemmas.Int.{to_z-of_z}
+use Rattle.predict.specs.Residues.{start}
+use Rattle.predict.proofs.Undone.{length-values}
+use Rattle.range.specs.Scale.{place_in}
 use Rattle.load.proofs.Codes.{codes_next, place_next, place_past}
 use Rattle.load.proofs.place.place_axis.Goals as goal
 
+pub loop-i-init : goal.loop-i-init
+loop-i-init g c =
+    let from = c.into_iter-i-iterator.ensures.into_iter_gives in
+    let count = ap enumerate_count from ∙ c.enumerate-i-items.ensures.count in
+    let source = ap enumerate_source from ∙ c.enumerate-i-items.ensures.source ∙ c.codes.ensures in
+    let long = length-values g.P.Predictor.means 0 start c.args.axis.body in
+    rw (count, source) (record { placed = search rules; coded = c.requires.coded; room = omega (arith, long, c.requires.room) })
+
+pub loop-i-init-derived : goal.loop-i-init-derived
+loop-i-init-derived g c =
+    let from = c.into_iter-i-iterator.ensures.into_iter_gives in
+    let count = ap enumerate_count from ∙ c.enumerate-i-items.ensures.count in
+    let source = ap enumerate_source from ∙ c.enumerate-i-items.ensures.source ∙ c.codes.ensures in
+    let long = length-values g.P.Predictor.means 0 start c.args.axis.body in
+    let short : length c.args.points.now < 2 ^ 64 = search rules in
+    ((tt, tt, inl (rw (count, source) (omega (arith, long, short, c.requires.room)))), tt)
+
 pub step_of-requires : goal.step_of-requires
 step_of-requires g c =
-    let m = g.P.Predictor.means in
-    let x = c.args.axis in
-    let code = to_z-of_z w32 c.code-code.result (record { sfits = c.code-code.type_inv }) ∙ c.code-code.ensures in
-    (and_parts _ _ (sym (codes_next m c.loop-i.before x.body c.loop-i.i _ _ (omega (arith, c.len-i-end.ensures.value)) code refl x.range) ∙ c.loop-i.invariant.coded)).0
+    let s = c.args.axis.range in
+    let fits : SFits w32 c.in-Some.code = search rules in
+    rw (to_z-of_z w32 c.in-Some.code fits) (and_parts _ _ (sym (codes_next s _ _ _ c.in-Some.ensures.steps.0) ∙ c.loop-i.invariant.coded)).0
+
+pub offset_bounds-points-i-in-loop-i : goal.offset_bounds-points-i-in-loop-i
+offset_bounds-points-i-in-loop-i g c =
+    let one = ap length c.in-Some.ensures.steps.0 in
+    let due : c.in-Some.i < length c.loop-i.points = omega (arith, one, c.in-Some.ensures.steps.1, c.loop-i.invariant.room) in
+    search rules
 
 pub loop-i-preserved : goal.loop-i-preserved
 loop-i-preserved g c =
-    let m = g.P.Predictor.means in
-    let x = c.args.axis in
-    let code = to_z-of_z w32 c.code-code.result (record { sfits = c.code-code.type_inv }) ∙ c.code-code.ensures in
-    let step = to_z-of_z w32 c.step_of.result (record { sfits = c.step_of.type_inv }) ∙ c.step_of.ensures in
-    let due : c.loop-i.i < length x.body = omega (arith, c.len-i-end.ensures.value) in
-    record {
-      placed = place_next m c.loop-i.before x.body c.loop-i.i _ _ due code c.then-before.ensures g.K.PointKind.kind c.args.number x.range c.loop-i.points _ c.index-points-i.result c.at_place.result _ (omega arith) step c.at_place.ensures c.loop-i.invariant.placed;
-      coded = (and_parts _ _ (sym (codes_next m c.loop-i.before x.body c.loop-i.i _ _ due code c.then-before.ensures x.range) ∙ c.loop-i.invariant.coded)).1;
-    }
+    let s = c.args.axis.range in
+    let steps = c.in-Some.ensures.steps in
+    let one = ap length steps.0 in
+    let fits : SFits w32 c.in-Some.code = search rules in
+    let step = to_z-of_z w32 c.step_of.result (record { sfits = c.step_of.type_inv }) ∙ c.step_of.ensures ∙ ap (place_in s) (to_z-of_z w32 c.in-Some.code fits) in
+    let due : c.in-Some.i < length c.loop-i.points = omega (arith, one, steps.1, c.loop-i.invariant.room) in
+    rw (steps.2, ← steps.1)
+    (record {
+      placed = place_next g.K.PointKind.kind c.args.number s c.in-Some.i c.loop-i.points _ _ _ _ c.index-points-i.result c.at_place.result _ steps.0 due step c.at_place.ensures (rw steps.1 c.loop-i.invariant.placed);
+      coded = (and_parts _ _ (sym (codes_next s _ _ _ steps.0) ∙ c.loop-i.invariant.coded)).1;
+      room = rw (length-set c.loop-i.points c.in-Some.i c.at_place.result) (omega (arith, one, steps.1, c.loop-i.invariant.room));
+    })
 
 pub returns : goal.returns
 returns g c =
-    place_past g.P.Predictor.means c.loop-i.before c.args.axis.body c.loop-i.i g.K.PointKind.kind c.args.number c.args.axis.range c.loop-i.points _ (omega (arith, c.len-i-end.ensures.value)) c.loop-i.invariant.placed
+    let from = c.into_iter-i-iterator.ensures.into_iter_gives in
+    let source = ap enumerate_source from ∙ c.enumerate-i-items.ensures.source ∙ c.codes.ensures in
+    place_past g.K.PointKind.kind c.args.number c.args.axis.range (enumerate_count c.loop-i.i-iterator) c.loop-i.points _ _ c.in-None.ensures.steps.0.0 (rw source at c.loop-i.invariant.placed)

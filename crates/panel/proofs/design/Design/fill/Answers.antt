@@ -6,21 +6,21 @@ use Rattle.predict.specs.declared.Before.{Before}
 use Rattle.predict.specs.Residues.{residues_from}
 use Rattle.panel.specs.Panel.{codes_on}
 use Rattle.panel.proofs.Points.{inside-step, fill_step, fill_end}
-use Rattle.panel.proofs.axis.OnAxis.fill.Goals as goal
+use Rattle.panel.proofs.design.Design.fill.Goals as goal
 
 pub code_of-code-requires : goal.code_of-code-requires
 code_of-code-requires g c =
     let k = g.K.PointKind.kind in
     let s = c.args.self.now in
     let v = to_z-of_z w32 c.coordinate.result (record { sfits = c.coordinate.type_inv }) ∙ c.coordinate.ensures in
-    (and_parts _ _ (sym (inside-step k s.axis s.range.now s.points.now c.loop-i.i c.point-item.result _ c.loop-i-test.true c.point-item.is v) ∙ c.loop-i.invariant.inside)).0
+    (and_parts _ _ (sym (inside-step k c.args.axis c.args.range.now s.points.now c.loop-i.i c.point-item.result _ c.loop-i-test.true c.point-item.is v) ∙ c.loop-i.invariant.inside)).0
 
 pub loop-i-preserved : goal.loop-i-preserved
 loop-i-preserved g c =
     let k = g.K.PointKind.kind in
     let m = g.P.Predictor.means in
-    let a = c.args.self.now.axis in
-    let s = c.args.self.now.range.now in
+    let a = c.args.axis in
+    let s = c.args.range.now in
     let ps = c.args.self.now.points.now in
     let l = c.loop-i in
     let v = to_z-of_z w32 c.coordinate.result (record { sfits = c.coordinate.type_inv }) ∙ c.coordinate.ensures in
@@ -36,4 +36,4 @@ loop-i-preserved g c =
 pub returns : goal.returns
 returns g c =
     let s = c.args.self.now in
-    fill_end g.K.PointKind.kind s.axis s.range.now s.points.now c.loop-i.i g.P.Predictor.means c.loop-i.before c.loop-i.work _ c.loop-i-test.false (omega arith) c.loop-i.invariant.filled
+    fill_end g.K.PointKind.kind c.args.axis c.args.range.now s.points.now c.loop-i.i g.P.Predictor.means c.loop-i.before c.loop-i.work _ c.loop-i-test.false (omega arith) c.loop-i.invariant.filled
