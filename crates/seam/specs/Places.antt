@@ -10,4 +10,4 @@ vertex_at p = triple p.x p.y p.z
 
 -- how far a run goes on each axis
 abbrev pub run_of : Run → Vertex
-run_of r = triple r.x r.y r.z
+run_of r = triple r.x.steps r.y.steps r.z.steps

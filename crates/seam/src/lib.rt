@@ -17,6 +17,9 @@ use kinds::{PointKind, VertexCount};
 use line::{Line, Tolerance};
 use refusal::Why;
 
+// The mark of a kept vertex; that of any other is 0.
+pub const KEPT: u8 = 1;
+
 // Splits the line of the first `count` points: writes 1 for each vertex that is kept and 0 for each other, and answers how
 // many are kept and how many chords waited at most. Refused, it writes nothing.
 pub fn split<K: PointKind>(
@@ -25,8 +28,10 @@ pub fn split<K: PointKind>(
     tolerance: u32,
     marks: &mut [u8],
 ) -> Result<(usize, usize), Why>
-    ensures answer { ◌≡◌ {A = Result (ℕ × ℕ) Why × List ℕ} (result, marks.new) (split_of K.kind tolerance count points.now marks.old) }
-    ensures sound { SoundAnswer (told K.kind (take count points.now)) tolerance count marks.new result }
+    ensures answer { let after = split_of K.kind tolerance count points.now marks.old in
+        ◌≡◌ {A = Result (ℕ × ℕ) Why × List ℕ} (result, marks.new) after }
+    ensures sound { let line = told K.kind (take count points.now) in
+        SoundAnswer line tolerance count marks.new result }
 {
     let tolerance = Tolerance::new(tolerance)?;
     let count = VertexCount::new(count).ok_or(Why::VertexCount)?.get();

@@ -10,6 +10,7 @@ ghost use Rattle.seam.specs.Heaviest.{heaviest as heaviest_of, heavier as heavie
 ghost use Rattle.seam.specs.Split.{marked, kept as kept_of, waits as waits_of};
 ghost use Rattle.seam.specs.Seam.{pick as pick_of, inner, cleared, ends, tree_of, close_by, all_close_by};
 
+use crate::KEPT;
 use crate::chord::Chord;
 use crate::gauge::Gauge;
 use crate::place::{Axis, Place, Way};
@@ -83,30 +84,11 @@ impl<'a, K: PointKind> Line<'a, K> {
         self.points.len() - 1
     }
 
-    // The heaviest vertex inside the chord from `a` to `b`, the first of equals; none where no vertex lies inside. The loop
-    // is told the chord's major axis and way as constants, so that it chooses neither at each vertex.
-    fn heaviest(&self, gauge: &Gauge, chord: Chord) -> Option<Weighed>
-        requires from { chord.from < chord.to }
-        requires to { chord.to < length self.now.points.now }
-        ensures { let vs = told K.kind self.now.points.now in
-            let weights = weights_from (vertex_at gauge.now.from) (run_of gauge.now.run) vs in
-            result ≡ heaviest_of weights chord.from (inner chord.from chord.to) }
-    {
-        match (gauge.major, gauge.way) {
-            (Axis::X, Way::Up) => self.heaviest_along(gauge, Axis::X, Way::Up, chord),
-            (Axis::X, Way::Down) => self.heaviest_along(gauge, Axis::X, Way::Down, chord),
-            (Axis::Y, Way::Up) => self.heaviest_along(gauge, Axis::Y, Way::Up, chord),
-            (Axis::Y, Way::Down) => self.heaviest_along(gauge, Axis::Y, Way::Down, chord),
-            (Axis::Z, Way::Up) => self.heaviest_along(gauge, Axis::Z, Way::Up, chord),
-            (Axis::Z, Way::Down) => self.heaviest_along(gauge, Axis::Z, Way::Down, chord),
-            (major, Way::Nowhere) => self.heaviest_along(gauge, major, Way::Nowhere, chord),
-        }
-    }
-
-    // The same, with the chord's major axis and way.
+    // The heaviest vertex inside a chord, the first of equals; none where no vertex lies inside. The caller names the
+    // chord's major axis and way.
     #[inline(always)]
     #[tactic(auto, using(crate::proofs::Heavy::heaviest_more), unfolding(crate::specs::Weight::weights_from))]
-    fn heaviest_along(&self, gauge: &Gauge, major: Axis, way: Way, chord: Chord) -> Option<Weighed>
+    fn heaviest(&self, gauge: &Gauge, major: Axis, way: Way, chord: Chord) -> Option<Weighed>
         requires major { major ≡ gauge.now.major }
         requires way { way ≡ gauge.now.way }
         requires from { chord.from < chord.to }
@@ -126,7 +108,8 @@ impl<'a, K: PointKind> Line<'a, K> {
         best
     }
 
-    // Where a chord is split: at its heaviest inner vertex, if that is not near.
+    // Where a chord is split: at its heaviest inner vertex, if that is not near. The search for it is told the chord's
+    // major axis and way as constants, so that it chooses neither at each vertex.
     #[tactic(auto, unfolding(crate::specs::Seam::pick, crate::specs::Weight::weight, crate::specs::Weight::limit))]
     fn pick(&self, tolerance: Tolerance, chord: Chord) -> Option<usize>
         requires from { chord.from < chord.to }
@@ -135,10 +118,18 @@ impl<'a, K: PointKind> Line<'a, K> {
             result ≡ pick_of vs tolerance.steps chord.from chord.to }
     {
         let gauge = Gauge::between(self.place(chord.from), self.place(chord.to));
-        match self.heaviest(&gauge, chord) {
-            Some(best) if !gauge.is_near(tolerance, best.weight) => Some(best.vertex),
-            _ => None,
-        }
+        let heaviest = match (gauge.major, gauge.way) {
+            (Axis::X, Way::Up) => self.heaviest(&gauge, Axis::X, Way::Up, chord),
+            (Axis::X, Way::Down) => self.heaviest(&gauge, Axis::X, Way::Down, chord),
+            (Axis::Y, Way::Up) => self.heaviest(&gauge, Axis::Y, Way::Up, chord),
+            (Axis::Y, Way::Down) => self.heaviest(&gauge, Axis::Y, Way::Down, chord),
+            (Axis::Z, Way::Up) => self.heaviest(&gauge, Axis::Z, Way::Up, chord),
+            (Axis::Z, Way::Down) => self.heaviest(&gauge, Axis::Z, Way::Down, chord),
+            (major, Way::Nowhere) => self.heaviest(&gauge, major, Way::Nowhere, chord),
+        };
+        heaviest
+            .filter(|best| !gauge.is_near(tolerance, best.weight))
+            .map(|best| best.vertex)
     }
 
     // Splits the chord from the first vertex to the last: marks the vertices that are kept inside it, and answers how many
@@ -225,7 +216,7 @@ fn keep(marks: &mut [u8], i: usize)
     requires { i < length marks.old }
     ensures { marks.new ≡ slice_set marks.old i 1 }
 {
-    marks[i] = 1;
+    marks[i] = KEPT;
 }
 
 // Writes 0 into the first `n` marks.

@@ -1,7 +1,7 @@
 // Places within the bench, axes, and how far one place lies from another.
-ghost use Rattle.std.specs.Prelude.{◌≡◌, ◌^◌, ◌≤◌, ◌-ℤ◌, unsigned_abs};
+ghost use Rattle.std.specs.Prelude.{◌≡◌, ◌^◌, ◌≤◌, pos, ◌-ℤ◌, ◌*ℤ◌, unsigned_abs};
 ghost use Rattle.seam.specs.Axis.{on_axis, way_of, going};
-ghost use Rattle.seam.specs.Weight.{OnBench, IsOnBench, triple, m_of, major_of};
+ghost use Rattle.seam.specs.Weight.{OnBench, IsOnBench, triple, m_of, major_of, clamped};
 
 use kinds::PointKind;
 
@@ -45,59 +45,102 @@ pub(crate) enum Way {
 
 impl Way {
     // The way of a distance.
-    pub(crate) fn of(d: i64) -> Way
-        ensures { result ≡ way_of d }
+    pub(crate) fn of(d: Distance) -> Way
+        ensures { result ≡ way_of d.steps }
     {
-        if d > 0 {
+        if d.steps > 0 {
             Way::Up
-        } else if d < 0 {
+        } else if d.steps < 0 {
             Way::Down
         } else {
             Way::Nowhere
         }
     }
 
-    // How far a distance goes this way.
-    pub(crate) fn along(self, p: i64) -> i64
-        requires { unsigned_abs p ≤ 2 ^ 21 }
-        ensures { result ≡ going self p }
+    // A distance as it goes this way.
+    pub(crate) fn along(self, d: Distance) -> Distance
+        ensures { result.steps ≡ going self d.steps }
     {
         match self {
-            Way::Up => p,
-            Way::Down => -p,
-            Way::Nowhere => 0,
+            Way::Up => d,
+            Way::Down => Distance { steps: -d.steps },
+            Way::Nowhere => Distance { steps: 0 },
         }
+    }
+}
+
+// How far one coordinate lies from another, in steps.
+#[derive(Clone, Copy)]
+pub(crate) struct Distance {
+    pub steps: i64,
+    ghost short: { unsigned_abs steps ≤ 2 ^ 21 },
+}
+
+impl Distance {
+    // From one coordinate within the bench to another.
+    fn between(from: i32, to: i32) -> Distance
+        requires from { OnBench from }
+        requires to { OnBench to }
+        ensures { result.steps ≡ to -ℤ from }
+    {
+        Distance {
+            steps: i64::from(to) - i64::from(from),
+        }
+    }
+
+    // How far it is, whichever way.
+    pub(crate) fn size(self) -> u64
+        ensures { result ≡ unsigned_abs self.steps }
+    {
+        self.steps.unsigned_abs()
+    }
+
+    // Held within 0 and `most`.
+    pub(crate) fn within(self, most: Distance) -> Distance
+        requires { most.steps ≡ pos (unsigned_abs most.steps) }
+        ensures { result.steps ≡ pos (clamped (unsigned_abs most.steps) self.steps) }
+    {
+        Distance {
+            steps: self.steps.clamp(0, most.steps),
+        }
+    }
+
+    // The product of two distances.
+    #[tactic(auto, using(crate::proofs::Sizes::product_bound, crate::proofs::Sizes::product_back))]
+    pub(crate) fn times(self, other: Distance) -> i64
+        ensures value { result ≡ self.steps *ℤ other.steps }
+        ensures bound { unsigned_abs result ≤ 2 ^ 42 }
+    {
+        self.steps * other.steps
     }
 }
 
 // How far one place lies from another on each axis.
 #[derive(Clone, Copy)]
 pub(crate) struct Run {
-    pub x: i64,
-    pub y: i64,
-    pub z: i64,
-    ghost short: { (unsigned_abs x ≤ 2 ^ 21) × (unsigned_abs y ≤ 2 ^ 21) × (unsigned_abs z ≤ 2 ^ 21) },
+    pub x: Distance,
+    pub y: Distance,
+    pub z: Distance,
 }
 
 impl Run {
     #[tactic(auto, using(crate::proofs::Sizes::back, crate::proofs::Sizes::back_held))]
     pub(crate) fn between(from: Place, to: Place) -> Run
-        ensures x { result.x ≡ to.x -ℤ from.x }
-        ensures y { result.y ≡ to.y -ℤ from.y }
-        ensures z { result.z ≡ to.z -ℤ from.z }
+        ensures x { result.x.steps ≡ to.x -ℤ from.x }
+        ensures y { result.y.steps ≡ to.y -ℤ from.y }
+        ensures z { result.z.steps ≡ to.z -ℤ from.z }
     {
         Run {
-            x: apart(to.x, from.x),
-            y: apart(to.y, from.y),
-            z: apart(to.z, from.z),
+            x: Distance::between(from.x, to.x),
+            y: Distance::between(from.y, to.y),
+            z: Distance::between(from.z, to.z),
         }
     }
 
     // The distance on an axis.
     #[tactic(auto, unfolding(crate::specs::Weight::triple))]
-    pub(crate) fn on(self, axis: Axis) -> i64
-        ensures value { result ≡ on_axis axis (triple self.x self.y self.z) }
-        ensures bound { unsigned_abs result ≤ 2 ^ 21 }
+    pub(crate) fn on(self, axis: Axis) -> Distance
+        ensures { result.steps ≡ on_axis axis (triple self.x.steps self.y.steps self.z.steps) }
     {
         match axis {
             Axis::X => self.x,
@@ -108,37 +151,25 @@ impl Run {
 
     // The greatest of the three distances, or 1.
     #[tactic(auto, unfolding(crate::specs::Weight::triple, crate::specs::Weight::m_of))]
-    pub(crate) fn span(self) -> u64
-        ensures value { result ≡ m_of (triple self.x self.y self.z) }
-        ensures bound { result ≤ 2 ^ 21 }
+    pub(crate) fn span(self) -> Distance
+        ensures { result.steps ≡ pos (m_of (triple self.x.steps self.y.steps self.z.steps)) }
     {
-        self.x
-            .unsigned_abs()
-            .max(self.y.unsigned_abs())
-            .max(self.z.unsigned_abs().max(1))
+        let m = self.x.size().max(self.y.size()).max(self.z.size()).max(1);
+        Distance { steps: m as i64 }
     }
 
     // The first axis on which the distance is `m`.
     #[tactic(auto, unfolding(crate::specs::Weight::triple))]
-    pub(crate) fn major(self, m: u64) -> Axis
-        ensures { result ≡ major_of m (triple self.x self.y self.z) }
+    pub(crate) fn major(self, m: Distance) -> Axis
+        ensures { let run = triple self.x.steps self.y.steps self.z.steps in
+            result ≡ major_of (unsigned_abs m.steps) run }
     {
-        if self.x.unsigned_abs() == m {
+        if self.x.size() == m.size() {
             Axis::X
-        } else if self.y.unsigned_abs() == m {
+        } else if self.y.size() == m.size() {
             Axis::Y
         } else {
             Axis::Z
         }
     }
-}
-
-// How far `to` lies from `from`.
-fn apart(to: i32, from: i32) -> i64
-    requires to { OnBench to }
-    requires from { OnBench from }
-    ensures value { result ≡ to -ℤ from }
-    ensures bound { unsigned_abs result ≤ 2 ^ 21 }
-{
-    i64::from(to) - i64::from(from)
 }

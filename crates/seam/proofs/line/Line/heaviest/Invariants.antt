@@ -3,7 +3,7 @@ use Rattle.kinds.specs.Vertex.{told}
 use Rattle.seam.specs.Heaviest.{heaviest}
 use Rattle.seam.specs.Places.{vertex_at, run_of}
 use Rattle.seam.specs.Weight.{weights_from}
-use Rattle.seam.proofs.line.Line.heaviest_along.Given as goal
+use Rattle.seam.proofs.line.Line.heaviest.Given as goal
 
 -- the heaviest of the vertices that were passed
 abbrev pub invariant-loop-i : goal.invariant-loop-i
