@@ -1,5 +1,5 @@
 -- A panel's four calls, one after another.
-use Rattle.std.proofs.Common.{◌≡◌, ℕ, ltb, List, [], ◌∷◌, length, take, IfOk, Ok, Err, Option, Result, sym, refl, ap, ◌∙◌, subst, arith}
+use Rattle.std.proofs.Common.{◌≡◌, ℕ, ltb, List, [], ◌∷◌, length, take, IfOk, Ok, Err, Option, Result, sym, refl, ap, ◌∙◌, subst}
 use Rattle.std.proofs.lemmas.Bool.{cond_both}
 use Rattle.refusal.specs.declared.Why.{Why}
 use Rattle.refusal.specs.declared.Refusal.{Refusal}
@@ -9,6 +9,7 @@ use Rattle.pack.specs.Packing.{ReadingMeaning}
 use Rattle.law.specs.Calls.{Call, load, split, cut, close, Desk, State, Outcome, Done, fresh, new, opened, finished, close_at, close_on, load_on, split_on, cut_on, on_points, on_marks, on_program}
 use Rattle.law.specs.Runs.{run, accepted, noted}
 use Rattle.law.specs.Law.{MisplacesNone, NoRunMisplacesAPanel}
+use Rattle.law.proofs.Arms.{err_ok}
 
 -- an accepted close answers the program's length
 module _ (d d' : Desk) (program program' : List ℕ) (n : ℕ) where
@@ -16,10 +17,7 @@ module _ (d d' : Desk) (program program' : List ℕ) (n : ℕ) where
   Tells done = ◌≡◌ {A = Done ℕ (List ℕ)} (Ok n, d', program') done → d'.size ≡ n
 
   never : (e : Refusal) (done : Done ℕ (List ℕ)) → done.0 ≡ Err e → Tells done
-  never e done refuses is =
-      let answers : ◌≡◌ {A = Result ℕ Refusal} (Ok n) (Err e) = ap (λ (x : Done ℕ (List ℕ)). x.0) is ∙ refuses in
-      let absent : ◌≡◌ {A = ℕ} 0 1 = cc in
-      absurd (omega arith)
+  never e done refuses is = absurd (err_ok (sym (ap (λ (x : Done ℕ (List ℕ)). x.0) is ∙ refuses)))
 
   finished-tells : Tells (finished d program)
   finished-tells =

@@ -28,7 +28,8 @@ pub fn cut_panel<K: PointKind + Copy, P: Predictor, Q: Unpacking>(
     ensures does { onward K.kind (untouched points.old marks.old program.old)
         (Load P.means Q.reading file.now) (Split tolerance ∷ Cut ∷ Close ∷ [])
         ≡ seen (told_as Length result) points.new marks.new program.new }
-    ensures placed { let calls = Load P.means Q.reading file.now ∷ Split tolerance ∷ Cut ∷ Close ∷ [] in
+    ensures placed { let load = Load P.means Q.reading file.now in
+        let calls = load ∷ Split tolerance ∷ Cut ∷ Close ∷ [] in
         IfOk result (λ n. MisplacesNone K.kind calls (take n program.new)) }
     ensures within { IfOk result (λ n. n ≤ length program.new) }
     ensures never { NoRunMisplacesAPanel K.kind }

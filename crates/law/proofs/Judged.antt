@@ -1,31 +1,23 @@
 -- What an accepted file is known by.
-use Rattle.std.proofs.Common.{◌≡◌, ℕ, zero, suc, ◌≤◌, Bool, true, false, cond, eqb, ltb, List, [], ◌∷◌, length, get_or, drop, Ok, Err, Result, sym, refl, ap, ◌∙◌, subst, arith}
-use Rattle.std.proofs.lemmas.Bool.{ltb-false, cond-true, cond-false, false≢true}
-use Rattle.std.specs.Prelude.{is_ok}
+use Rattle.std.proofs.Common.{◌≡◌, ℕ, zero, suc, ◌≤◌, Bool, eqb, ltb, List, [], ◌∷◌, length, get_or, drop, Ok, Err, Result, sym, refl, ap, ◌∙◌, subst, arith}
+use Rattle.std.proofs.lemmas.Bool.{ltb-false, cond-true, cond-false}
 use Rattle.refusal.specs.declared.Refusal.{Refusal}
 use Rattle.predict.specs.Predictor.{PredictorMeaning}
 use Rattle.pack.specs.Packing.{ReadingMeaning}
 use Rattle.panel.specs.Words.{word}
 use Rattle.panel.specs.Panel.{Axis, Panel}
+use Rattle.law.proofs.Arms.{not_then, not_else, err_ok}
 use Rattle.panel.specs.Judging.{and_then, counted, head_at, end_at, Rest, axis_at, more, axes_at, judged}
 
 and-then-ok : {X Y E : Type 0} (r : Result X E) (f : X → Result Y E) (y : Y) → and_then r f ≡ Ok y → (x : X) × (r ≡ Ok x) × (f x ≡ Ok y)
 and-then-ok (Ok x) f y e = (x, refl, e)
-and-then-ok (Err z) f y e = absurd (false≢true (ap is_ok e))
-
-then_ok : {X E : Type 0} (b : Bool) (r : Result X E) (z : E) (y : X) → cond b r (Err z) ≡ Ok y → (b ≡ true) × (r ≡ Ok y)
-then_ok true r z y e = (refl, e)
-then_ok false r z y e = absurd (false≢true (ap is_ok e))
-
-else-ok : {X E : Type 0} (b : Bool) (r : Result X E) (z : E) (y : X) → cond b (Err z) r ≡ Ok y → (b ≡ false) × (r ≡ Ok y)
-else-ok true r z y e = absurd (false≢true (ap is_ok e))
-else-ok false r z y e = (refl, e)
+and-then-ok (Err z) f y e = absurd (err_ok e)
 
 counted-ok : (room w n : ℕ) → counted room w ≡ Ok n → (2 ≤ n) × (n ≤ 4096) × (counted 4096 w ≡ Ok n)
 counted-ok room w n e =
-    let a = else-ok (ltb w 2) _ _ _ e in
-    let b = else-ok (ltb 4096 w) _ _ _ a.1 in
-    let c = else-ok (ltb room w) _ _ _ b.1 in
+    let a = not_then (ltb w 2) _ _ _ err_ok e in
+    let b = not_then (ltb 4096 w) _ _ _ err_ok a.1 in
+    let c = not_then (ltb room w) _ _ _ err_ok b.1 in
     let h = c.1 in
     let same : w ≡ n = cc in
     (omega (arith, ltb-false w 2 a.0), omega (arith, ltb-false 4096 w b.0), cond-false (ltb w 2) _ _ a.0 ∙ cond-false (ltb 4096 w) _ _ b.0 ∙ cond-false (ltb 4096 w) _ _ b.0 ∙ c.1)
@@ -37,18 +29,18 @@ head_ok axes predictor packing room n file e =
     let t3 : Bool = eqb (get_or file 1 0) axes in
     let t4 : Bool = eqb (get_or file 2 0) predictor in
     let t5 : Bool = eqb (get_or file 3 0) packing in
-    let a = else-ok t1 _ _ _ e in
-    let b = then_ok t2 _ _ _ a.1 in
-    let c = then_ok t3 _ _ _ b.1 in
-    let d = then_ok t4 _ _ _ c.1 in
-    let f = then_ok t5 _ _ _ d.1 in
+    let a = not_then t1 _ _ _ err_ok e in
+    let b = not_else t2 _ _ _ err_ok a.1 in
+    let c = not_else t3 _ _ _ err_ok b.1 in
+    let d = not_else t4 _ _ _ err_ok c.1 in
+    let f = not_else t5 _ _ _ err_ok d.1 in
     let g = counted-ok room (word file 4) n f.1 in
     (g.0, g.1, cond-false t1 _ _ a.0 ∙ cond-true t2 _ _ b.0 ∙ cond-true t3 _ _ c.0 ∙ cond-true t4 _ _ d.0 ∙ cond-true t5 _ _ f.0 ∙ g.2)
 
 module _ (m : PredictorMeaning) (q : ReadingMeaning) where
   more-ok : (n : ℕ) (x : Axis) (r : Result (List Axis × Rest) Refusal) (y : List Axis × Rest) → more m q n x r ≡ Ok y → (z : List Axis × Rest) × (r ≡ Ok z) × (length y.0 ≡ suc (length z.0))
   more-ok n x (Ok z) y e = let same : ◌≡◌ {A = List Axis × Rest} (x ∷ z.0, z.1) y = cc in (z, refl, ap (λ (p : List Axis × Rest). length p.0) (sym same))
-  more-ok n x (Err z) y e = absurd (false≢true (ap is_ok e))
+  more-ok n x (Err z) y e = absurd (err_ok e)
 
   axes-sized : (n a : ℕ) (r : Rest) (y : List Axis × Rest) → axes_at m q n a r ≡ Ok y → length y.0 ≡ a
   unfolding axes_at

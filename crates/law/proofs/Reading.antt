@@ -1,10 +1,11 @@
 -- A program is read in one way at most.
-use Rattle.std.proofs.Common.{◌≡◌, ℕ, ◌*◌, Bool, true, false, cond, List, [], ◌∷◌, ◌++◌, length, get_or, ℤ, sym, refl, ap, ◌∙◌, ap₂, arith, w32, to_z, of_z}
+use Rattle.std.proofs.Common.{◌≡◌, ℕ, Bool, true, false, cond, List, [], ◌∷◌, ◌++◌, length, get_or, ℤ, sym, refl, ap, ◌∙◌, ap₂, arith, w32, to_z, of_z}
 use mir.Facts.{Fits-of_z}
 use Rattle.std.specs.List.{flat_map, AllByRecursion}
 use Rattle.std.proofs.lemmas.List.{append_assoc}
 use Rattle.std.proofs.lemmas.Int.{to_z-of_z}
 use Rattle.predict.specs.Wrap.{Word}
+use Rattle.pack.specs.Plain.{length_spelled}
 use Rattle.panel.specs.Words.{le32, word}
 use Rattle.std.proofs.lemmas.Nat.{from_le_bytes-to_le_bytes_4}
 use Rattle.law.specs.Program.{Chain, spelled, stroke, finish, chain_bytes, program_bytes}
@@ -20,10 +21,6 @@ apart (x ∷ xs) (y ∷ ys) us vs h e =
     let r = apart xs ys us vs (omega arith) b in
     let s = r.0 in
     (cc, r.1)
-
-pub length-spelled : (zs : List ℤ) → length (spelled zs) ≡ 4 * length zs
-length-spelled [] = refl
-length-spelled (z ∷ zs) = omega (arith, length-spelled zs)
 
 word-once : (z w : ℤ) → Word z → Word w → le32 (of_z w32 z) ≡ le32 (of_z w32 w) → z ≡ w
 word-once z w a b e =
@@ -42,7 +39,7 @@ module _ (axes : ℕ) where
   steps-once : (zs ws : List ℤ) (us vs : List ℕ) → Steps axes zs → Steps axes ws → spelled zs ++ us ≡ spelled ws ++ vs → (zs ≡ ws) × (us ≡ vs)
   steps-once zs ws us vs a b e =
       let same : length zs ≡ length ws = a.0 ∙ sym b.0 in
-      let r = apart (spelled zs) (spelled ws) us vs (omega (arith, length-spelled zs, length-spelled ws)) e in
+      let r = apart (spelled zs) (spelled ws) us vs (omega (arith, length_spelled zs, length_spelled ws)) e in
       (spelled-once zs ws same a.1 b.1 r.0, r.1)
 
   abbrev stroke_bytes : List (List ℤ) → List ℕ → List ℕ
@@ -98,5 +95,5 @@ module _ (axes : ℕ) where
       let s = chains-once cs ds e f a.1 b.1 r.1 in
       (ap₂ (λ (x : Chain) (ys : List Chain). x ∷ ys) r.0 s.0, s.1)
 
-pub reads-once : ReadsOnce
-reads-once axes program cs ds e f a b = chains-once axes cs ds e f a.wholes b.wholes (sym a.bytes ∙ b.bytes)
+pub reads_once : ReadsOnce
+reads_once axes program cs ds e f a b = chains-once axes cs ds e f a.wholes b.wholes (sym a.bytes ∙ b.bytes)

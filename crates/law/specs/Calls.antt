@@ -101,19 +101,19 @@ split_panel_at (Loaded n) = Err TooEarly
 split_panel_at (Split n) = Ok n
 split_panel_at Closed = Err AlreadyClosed
 
--- whether a stage has what a call of this name asks for
-abbrev pub admitted : Stage → Event → Result (Unit {0}) Why
-admitted s event.Load = opened s
-admitted s event.Split = result_map_both (λ _. tt) (λ w. w) (panel_at s)
-admitted s event.Cut = result_map_both (λ _. tt) (λ w. w) (split_panel_at s)
-admitted s event.Close = opened s
-
 -- the vertex count of the panel at a stage, if there is one
 abbrev pub panel_count : Stage → Option ℕ
 panel_count Empty = None
 panel_count (Loaded n) = Some n
 panel_count (Split n) = Some n
 panel_count Closed = None
+
+-- whether a stage has what a call of this name asks for, and the vertex count of its panel, if there is one
+abbrev pub admitted : Stage → Event → Result (Option ℕ) Why
+admitted s event.Load = result_map_both (λ _. panel_count s) (λ w. w) (opened s)
+admitted s event.Split = result_map_both Some (λ w. w) (panel_at s)
+admitted s event.Cut = result_map_both Some (λ w. w) (split_panel_at s)
+admitted s event.Close = result_map_both (λ _. panel_count s) (λ w. w) (opened s)
 
 -- 8 steps if none is given
 abbrev pub tolerance : Option ℕ → ℕ

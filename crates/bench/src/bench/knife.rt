@@ -1,8 +1,8 @@
 // The knife, raised or lowered. Its state is a type parameter, and it is moved: a call takes the knife and gives it back in
 // the next state, so none is used twice, and none is let go but by a call that says so.
-ghost use Rattle.std.specs.Prelude.{◌≡◌, ◌+◌, ◌*◌, ◌≤◌, [], ◌∷◌, length, nat_le};
+ghost use Rattle.std.specs.Prelude.{◌≡◌, ◌+◌, ◌*◌, ◌<◌, ◌≤◌, [], ◌∷◌, length, nat_le};
 ghost use Rattle.law.specs.Program.{spelled, steps, travel as travel_bytes, lower as lower_bytes, stroke as stroke_bytes, raise as raise_bytes, finish as finish_bytes};
-ghost use Rattle.bench.specs.Knife.{answered, written};
+ghost use Rattle.bench.specs.Knife.{advanced, begun, answered, written};
 
 use kinds::PointKind;
 use refusal::Why;
@@ -65,7 +65,8 @@ impl Knife<Raised> {
         to: &K,
     ) -> Result<Knife<Raised>, (Why, Knife<Raised>)>
         ensures answer { result ≡ answered program.old self (travel_bytes (steps K.kind to.now)) }
-        ensures program { program.new ≡ written program.old self (travel_bytes (steps K.kind to.now)) }
+        ensures program { let bytes = travel_bytes (steps K.kind to.now) in
+            program.new ≡ written program.old self bytes }
     {
         self.write_move(program, TRAVEL, to)
     }
@@ -75,7 +76,7 @@ impl Knife<Raised> {
         ensures answer { result ≡ answered program.old self lower_bytes }
         ensures program { program.new ≡ written program.old self lower_bytes }
     {
-        self.write_letter(program, LOWER)
+        self.advance(program, LOWER, 1)
     }
 
     // E: the knife ends, and the program length alone is left.
@@ -83,7 +84,7 @@ impl Knife<Raised> {
         ensures answer { result ≡ answered program.old self finish_bytes }
         ensures program { program.new ≡ written program.old self finish_bytes }
     {
-        let knife: Knife<Raised> = self.write_letter(program, FINISH)?;
+        let knife: Knife<Raised> = self.advance(program, FINISH, 1)?;
         Ok(knife.rest())
     }
 }
@@ -96,7 +97,8 @@ impl Knife<Lowered> {
         to: &K,
     ) -> Result<Knife<Lowered>, (Why, Knife<Lowered>)>
         ensures answer { result ≡ answered program.old self (stroke_bytes (steps K.kind to.now)) }
-        ensures program { program.new ≡ written program.old self (stroke_bytes (steps K.kind to.now)) }
+        ensures program { let bytes = stroke_bytes (steps K.kind to.now) in
+            program.new ≡ written program.old self bytes }
     {
         self.write_move(program, STROKE, to)
     }
@@ -106,25 +108,31 @@ impl Knife<Lowered> {
         ensures answer { result ≡ answered program.old self raise_bytes }
         ensures program { program.new ≡ written program.old self raise_bytes }
     {
-        self.write_letter(program, RAISE)
+        self.advance(program, RAISE, 1)
     }
 }
 
-// Writing is the same in each state. Where there is room the knife goes on behind the command, in the next state; else
-// nothing is written, and it comes back as it was.
+// Writing is the same in each state.
 impl<S> Knife<S> {
-    // A letter alone.
-    fn write_letter<T>(self, program: &mut [u8], letter: u8) -> Result<Knife<T>, (Why, Knife<S>)>
-        ensures answer { result ≡ answered program.old self (letter ∷ []) }
-        ensures program { program.new ≡ written program.old self (letter ∷ []) }
+    // Where so many bytes have room, the letter is written, and the knife goes on behind the bytes, in the next state; else
+    // nothing is written, and it comes back as it was.
+    fn advance<T>(
+        self,
+        program: &mut [u8],
+        letter: u8,
+        need: usize,
+    ) -> Result<Knife<T>, (Why, Knife<S>)>
+        requires { 0 < need }
+        ensures answer { result ≡ advanced program.old self need }
+        ensures program { program.new ≡ begun program.old self need (letter ∷ []) }
     {
         let Knife { at, state } = self;
-        if !has_room(program, at, 1) {
+        if !has_room(program, at, need) {
             return Err((Why::NoSpace, Knife { at, state }));
         }
         program[at] = letter;
         Ok(Knife {
-            at: at + 1,
+            at: at + need,
             state: PhantomData,
         })
     }
@@ -137,24 +145,19 @@ impl<S> Knife<S> {
         letter: u8,
         to: &K,
     ) -> Result<Knife<T>, (Why, Knife<S>)>
-        ensures answer { result ≡ answered program.old self (letter ∷ spelled (steps K.kind to.now)) }
-        ensures program { program.new ≡ written program.old self (letter ∷ spelled (steps K.kind to.now)) }
+        ensures answer { let bytes = letter ∷ spelled (steps K.kind to.now) in
+            result ≡ answered program.old self bytes }
+        ensures program { let bytes = letter ∷ spelled (steps K.kind to.now) in
+            program.new ≡ written program.old self bytes }
     {
-        let Knife { at, state } = self;
-        let need = move_size::<K>();
-        if !has_room(program, at, need) {
-            return Err((Why::NoSpace, Knife { at, state }));
-        }
-        program[at] = letter;
+        let at = self.at;
+        let knife: Knife<T> = self.advance(program, letter, move_size::<K>())?;
         for axis in 0..K::AXES {
             let word = to.coordinate(axis).to_le_bytes();
             let place = at + 1 + 4 * axis;
             program[place..place + 4].copy_from_slice(&word);
         }
-        Ok(Knife {
-            at: at + need,
-            state: PhantomData,
-        })
+        Ok(knife)
     }
 }
 
