@@ -4,7 +4,7 @@
 
 ghost use Rattle.std.specs.Prelude.{◌≡◌, length};
 ghost use Rattle.seam.specs.Seam.{split_of};
-ghost use Rattle.controller.specs.Answers.{counted};
+ghost use Rattle.controller.specs.Answers.{counted, sized};
 ghost use Rattle.controller.specs.Cuts.{left, given_by, cut_by_numbers};
 ghost use Rattle.controller.specs.Stores.{Stores};
 
@@ -16,6 +16,7 @@ use kinds::PointKind;
 use pairing::{Cut, Pairing, Store};
 use range::words::Words;
 use ranges::ranges_of;
+use refusal::Refusal;
 
 // The number that stands for no tolerance.
 const NONE_GIVEN: u32 = 0xFFFF_FFFF;
@@ -31,7 +32,8 @@ pub fn cut<K: PointKind + Copy>(
     program: &mut [u8],
 ) -> Answer
     ensures { left result points.new marks.new program.new ≡
-        cut_by_numbers K.kind predictor packing tolerance file.now points.old marks.old program.old }
+        cut_by_numbers K.kind predictor packing tolerance file.now
+        points.old marks.old program.old }
 {
     let mut cut = Cut {
         file,
@@ -73,18 +75,27 @@ pub fn store<K: PointKind>(
     ensures { Stores K.kind predictor packing words design.now (length work.old) file.old
         (result, file.new) }
 {
-    match (Pairing::new(predictor, packing), ranges_of(words)) {
-        (Ok(pairing), Ok(ranges)) => {
-            let ranges = &ranges;
-            pairing
-                .run(&mut Store {
-                    design,
-                    ranges,
-                    work,
-                    file,
-                })
-                .into()
-        }
-        (Err(why), _) | (_, Err(why)) => why.into(),
-    }
+    stored::<K>(design, predictor, packing, words, work, file).into()
+}
+
+// The file's length. A number that names nothing is refused before a range.
+fn stored<K: PointKind>(
+    design: &[K],
+    predictor: u8,
+    packing: u8,
+    words: [Words; 3],
+    work: &mut [i32],
+    file: &mut [u8],
+) -> Result<usize, Refusal>
+    ensures { Stores K.kind predictor packing words design.now (length work.old) file.old
+        (sized result, file.new) }
+{
+    let pairing = Pairing::new(predictor, packing)?;
+    let ranges = ranges_of(words)?;
+    pairing.run(&mut Store {
+        design,
+        ranges: &ranges,
+        work,
+        file,
+    })
 }

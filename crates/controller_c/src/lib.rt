@@ -23,7 +23,8 @@ pub extern "C" fn loft_cut_flat(
     marks: &mut [u8],
     program: &mut [u8],
 ) -> Answer
-    ensures { left result points.new marks.new program.new ≡ cut_by_numbers flat predictor packing tolerance file.now points.old marks.old program.old }
+    ensures { left result points.new marks.new program.new ≡
+        cut_by_numbers flat predictor packing tolerance file.now points.old marks.old program.old }
 {
     controller::cut::<Flat>(file, predictor, packing, tolerance, points, marks, program)
 }
@@ -39,7 +40,8 @@ pub extern "C" fn loft_cut_mould(
     marks: &mut [u8],
     program: &mut [u8],
 ) -> Answer
-    ensures { left result points.new marks.new program.new ≡ cut_by_numbers mould predictor packing tolerance file.now points.old marks.old program.old }
+    ensures { left result points.new marks.new program.new ≡
+        cut_by_numbers mould predictor packing tolerance file.now points.old marks.old program.old }
 {
     controller::cut::<Mould>(file, predictor, packing, tolerance, points, marks, program)
 }
@@ -83,7 +85,9 @@ pub extern "C" fn loft_store_flat(
     work: &mut [i32],
     file: &mut [u8],
 ) -> Answer
-    ensures { Stores flat predictor packing (x.now ∷ y.now ∷ y.now ∷ []) design.now (length work.old) file.old (result, file.new) }
+    ensures { let words = x.now ∷ y.now ∷ y.now ∷ [] in
+        Stores flat predictor packing words design.now (length work.old) file.old
+        (result, file.new) }
 {
     controller::store::<Flat>(design, predictor, packing, [*x, *y, *y], work, file)
 }
@@ -100,7 +104,9 @@ pub extern "C" fn loft_store_mould(
     work: &mut [i32],
     file: &mut [u8],
 ) -> Answer
-    ensures { Stores mould predictor packing (x.now ∷ y.now ∷ z.now ∷ []) design.now (length work.old) file.old (result, file.new) }
+    ensures { let words = x.now ∷ y.now ∷ z.now ∷ [] in
+        Stores mould predictor packing words design.now (length work.old) file.old
+        (result, file.new) }
 {
     controller::store::<Mould>(design, predictor, packing, [*x, *y, *z], work, file)
 }

@@ -7,7 +7,6 @@ use kinds::Flat;
 use pack::Plain;
 use predict::Lag1;
 use refusal::Refusal;
-use std::alloc::Global;
 
 // A call on the bench, or another hand's write into a list between two calls.
 enum Call<'a> {
@@ -56,13 +55,13 @@ struct Table {
 }
 
 impl Table {
-    fn new(heap: Global, r: &mut Reader) -> anyhow::Result<Table> {
+    fn new(r: &mut Reader) -> anyhow::Result<Table> {
         Ok(Table {
             bench: Bench::new(),
-            points: vec![in heap; Flat::default(); r.size()?]?,
-            marks: vec![in heap; 0u8; r.size()?]?,
-            program: vec![in heap; 0u8; r.size()?]?,
-            notes: Vec::new(heap),
+            points: r.list(Flat::default())?,
+            marks: r.list(0u8)?,
+            program: r.list(0u8)?,
+            notes: Vec::new(r.heap),
         })
     }
 
@@ -130,8 +129,8 @@ impl Table {
 }
 
 // Each call's answer, and then the whole program list.
-pub fn answers(heap: Global, r: &mut Reader) -> anyhow::Result<Vec<u8>> {
-    let mut table = Table::new(heap, r)?;
+pub fn answers(r: &mut Reader) -> anyhow::Result<Vec<u8>> {
+    let mut table = Table::new(r)?;
     let count = r.byte()?;
     for _ in 0..count {
         table.make(Call::read(r)?)?;

@@ -8,32 +8,32 @@ mod run;
 use anyhow::anyhow;
 use range::range::Range;
 use reader::Reader;
-use std::alloc::Global;
+use run::{CutRecord, StoreRecord};
 use std::fs;
 
 // 0, or the number of the reason why there is no such range.
-fn range_answer(heap: Global, r: &mut Reader) -> anyhow::Result<Vec<u8>> {
+fn range_answer(r: &mut Reader) -> anyhow::Result<Vec<u8>> {
     let number = match Range::try_from(r.words()?) {
         Ok(_) => 0,
         Err(why) => why.number(),
     };
-    Ok(vec![in heap; number]?)
+    Ok(vec![in r.heap; number]?)
 }
 
 // What the library gives for the next case.
-fn found(heap: Global, r: &mut Reader) -> anyhow::Result<Vec<u8>> {
+fn found(r: &mut Reader) -> anyhow::Result<Vec<u8>> {
     match r.byte()? {
-        0 => run::cut(heap, r),
-        1 => run::store(heap, r),
-        2 => range_answer(heap, r),
-        3 => calls::answers(heap, r),
+        0 => run::answer::<CutRecord>(r),
+        1 => run::answer::<StoreRecord>(r),
+        2 => range_answer(r),
+        3 => calls::answers(r),
         _ => Err(anyhow!("there is no such case")),
     }
 }
 
 fn main(rt: HostRuntime) -> anyhow::Result<()> {
     let corpus = fs::read(&rt, "corpus.bin")?;
-    let mut r = Reader::new(corpus.as_slice());
+    let mut r = Reader::new(rt.alloc(), corpus.as_slice());
     let mut cases: u64 = 0;
     let mut differ: u64 = 0;
     // a case takes a byte at least
@@ -43,7 +43,7 @@ fn main(rt: HostRuntime) -> anyhow::Result<()> {
         }
         let length = r.byte()?;
         let name = r.bytes(usize::from(length))?;
-        let got = found(rt.alloc(), &mut r)?;
+        let got = found(&mut r)?;
         let expected = r.block()?;
         cases = cases.saturating_add(1);
         if got.as_slice() != expected {

@@ -1,17 +1,20 @@
-// Takes numbers and bytes from the front of the corpus.
+// Takes numbers, bytes and lists from the front of the corpus.
 use anyhow::Context;
 use range::words::Words;
+use std::alloc::Global;
 
 const SHORT: &str = "the corpus ends inside a record";
 
 #[derive(Drop)]
 pub struct Reader<'a> {
+    // where lists are made
+    pub heap: Global,
     rest: &'a [u8],
 }
 
 impl<'a> Reader<'a> {
-    pub fn new(bytes: &'a [u8]) -> Reader<'a> {
-        Reader { rest: bytes }
+    pub fn new(heap: Global, bytes: &'a [u8]) -> Reader<'a> {
+        Reader { heap, rest: bytes }
     }
 
     pub fn is_done(&self) -> bool {
@@ -66,5 +69,11 @@ impl<'a> Reader<'a> {
     pub fn block(&mut self) -> anyhow::Result<&'a [u8]> {
         let n = self.size()?;
         self.bytes(n)
+    }
+
+    // A length, and a list of so many entries alike.
+    pub fn list<T: Copy + Clone + Drop>(&mut self, entry: T) -> anyhow::Result<Vec<T>> {
+        let n = self.size()?;
+        Ok(vec![in self.heap; entry; n]?)
     }
 }

@@ -10,104 +10,97 @@ use std::alloc::Global;
 // A tolerance of a record that stands for none.
 const NONE_GIVEN: u16 = 65535;
 
-// A point kind, which a record names by its axes.
-#[derive(Clone, Copy, PartialEq, Eq)]
-enum Kind {
-    Flat,
-    Mould,
+// A point kind of which lists are made and filled.
+pub trait Kind: PointKind + Copy + Clone + Default + Drop {}
+
+impl<K: PointKind + Copy + Clone + Default + Drop> Kind for K {}
+
+// A sort of record whose points are of the kind that it names.
+pub trait Record {
+    // What the library gives for the rest of the record.
+    fn answer<K: Kind>(r: &mut Reader) -> anyhow::Result<Vec<u8>>;
 }
 
-// The kind, predictor and packing of a record.
-fn head(r: &mut Reader) -> anyhow::Result<(Kind, Pairing)> {
-    let [axes, predictor, packing] = r.take::<3>()?;
-    let kind = match axes {
-        2 => Kind::Flat,
-        3 => Kind::Mould,
-        _ => return Err(anyhow!("no kind has so many axes")),
-    };
+// What the library gives for a record of a sort, which names the kind of its points by their axes.
+pub fn answer<R: Record>(r: &mut Reader) -> anyhow::Result<Vec<u8>> {
+    match r.byte()? {
+        2 => R::answer::<Flat>(r),
+        3 => R::answer::<Mould>(r),
+        _ => Err(anyhow!("no kind has so many axes")),
+    }
+}
+
+// A panel file cut on a new bench: the program, or the line of the refusal.
+pub struct CutRecord;
+
+impl Record for CutRecord {
+    fn answer<K: Kind>(r: &mut Reader) -> anyhow::Result<Vec<u8>> {
+        let pairing = pairing(r)?;
+        let tolerance = tolerance(r.short()?);
+        let mut points = r.list(K::default())?;
+        let mut marks = r.list(0u8)?;
+        let mut program = r.list(0u8)?;
+        let answer = pairing.run(&mut Cut {
+            file: r.block()?,
+            tolerance,
+            points: points.as_mut_slice(),
+            marks: marks.as_mut_slice(),
+            program: program.as_mut_slice(),
+        });
+        written(r.heap, answer, program.as_slice())
+    }
+}
+
+// Design points stored: the file, or the line of the refusal.
+pub struct StoreRecord;
+
+impl Record for StoreRecord {
+    fn answer<K: Kind>(r: &mut Reader) -> anyhow::Result<Vec<u8>> {
+        let pairing = pairing(r)?;
+        let ranges = [sound_range(r)?, sound_range(r)?, sound_range(r)?];
+        let mut work = r.list(0i32)?;
+        let mut file = r.list(0u8)?;
+        let design = design::<K>(r)?;
+        let answer = pairing.run(&mut Store {
+            design: design.as_slice(),
+            ranges: &ranges,
+            work: work.as_mut_slice(),
+            file: file.as_mut_slice(),
+        });
+        written(r.heap, answer, file.as_slice())
+    }
+}
+
+// The predictor and the packing of a record.
+fn pairing(r: &mut Reader) -> anyhow::Result<Pairing> {
+    let [predictor, packing] = r.take::<2>()?;
     let predictor = predictor
         .try_into()
         .map_err(|_| anyhow!("there is no such predictor"))?;
     let packing = packing
         .try_into()
         .map_err(|_| anyhow!("there is no such packing"))?;
-    Ok((kind, Pairing { predictor, packing }))
-}
-
-// The front of a list, or a refusal's line.
-fn written(heap: Global, answer: Result<usize, Refusal>, list: &[u8]) -> anyhow::Result<Vec<u8>> {
-    match answer {
-        Ok(n) => Ok(list[..n.min(list.len())].to_vec(heap)?),
-        Err(e) => Ok(e.line().to_vec(heap)?),
-    }
+    Ok(Pairing { predictor, packing })
 }
 
 pub fn tolerance(n: u16) -> Option<u32> {
     (n != NONE_GIVEN).then_some(u32::from(n))
 }
 
-// What the library gives for a cut: the program, or the line of the refusal.
-pub fn cut(heap: Global, r: &mut Reader) -> anyhow::Result<Vec<u8>> {
-    match head(r)? {
-        (Kind::Flat, pairing) => cut_points::<Flat>(heap, pairing, r),
-        (Kind::Mould, pairing) => cut_points::<Mould>(heap, pairing, r),
-    }
-}
-
-fn cut_points<K: PointKind + Copy + Clone + Default + Drop>(
-    heap: Global,
-    pairing: Pairing,
-    r: &mut Reader,
-) -> anyhow::Result<Vec<u8>> {
-    let tolerance = tolerance(r.short()?);
-    let mut points = vec![in heap; K::default(); r.size()?]?;
-    let mut marks = vec![in heap; 0u8; r.size()?]?;
-    let mut program = vec![in heap; 0u8; r.size()?]?;
-    let file = r.block()?;
-    let answer = pairing.run(&mut Cut {
-        file,
-        tolerance,
-        points: points.as_mut_slice(),
-        marks: marks.as_mut_slice(),
-        program: program.as_mut_slice(),
-    });
-    written(heap, answer, program.as_slice())
-}
-
-// What the library gives for a store: the file, or the line of the refusal.
-pub fn store(heap: Global, r: &mut Reader) -> anyhow::Result<Vec<u8>> {
-    match head(r)? {
-        (Kind::Flat, pairing) => store_points::<Flat>(heap, pairing, r),
-        (Kind::Mould, pairing) => store_points::<Mould>(heap, pairing, r),
-    }
-}
-
-fn store_points<K: PointKind + Copy + Clone + Drop>(
-    heap: Global,
-    pairing: Pairing,
-    r: &mut Reader,
-) -> anyhow::Result<Vec<u8>> {
-    let ranges = [sound_range(r)?, sound_range(r)?, sound_range(r)?];
-    let mut work = vec![in heap; 0i32; r.size()?]?;
-    let mut file = vec![in heap; 0u8; r.size()?]?;
-    let count = r.number()?;
-    let mut design = Vec::new(heap);
-    for _ in 0..count {
-        design.push(point::<K>(r)?)?;
-    }
-    let answer = pairing.run(&mut Store {
-        design: design.as_slice(),
-        ranges: &ranges,
-        work: work.as_mut_slice(),
-        file: file.as_mut_slice(),
-    });
-    written(heap, answer, file.as_slice())
-}
-
 // A range of a record, which is always sound.
 fn sound_range(r: &mut Reader) -> anyhow::Result<Range> {
     let words = r.words()?;
     Range::try_from(words).map_err(|_| anyhow!("a range of the corpus is refused"))
+}
+
+// A count, and so many points.
+fn design<K: PointKind + Drop>(r: &mut Reader) -> anyhow::Result<Vec<K>> {
+    let count = r.number()?;
+    let mut design = Vec::new(r.heap);
+    for _ in 0..count {
+        design.push(point::<K>(r)?)?;
+    }
+    Ok(design)
 }
 
 // A point of a record: a number for each axis.
@@ -118,4 +111,12 @@ fn point<K: PointKind>(r: &mut Reader) -> anyhow::Result<K> {
     }
     let [x, y, z] = numbers;
     Ok(K::make(x, y, z))
+}
+
+// The front of a list, or a refusal's line.
+fn written(heap: Global, answer: Result<usize, Refusal>, list: &[u8]) -> anyhow::Result<Vec<u8>> {
+    match answer {
+        Ok(n) => Ok(list[..n.min(list.len())].to_vec(heap)?),
+        Err(e) => Ok(e.line().to_vec(heap)?),
+    }
 }

@@ -48,7 +48,8 @@ impl Pairing {
 
     // Runs a task under the pairing.
     pub fn run<T: Task>(self, task: &mut T) -> T::Output
-        ensures { T.answers task.old (predictor_of self.predictor) (packing_of self.packing) task.new result }
+        ensures { T.answers task.old (predictor_of self.predictor) (packing_of self.packing)
+            task.new result }
     {
         match self.predictor {
             PredictorName::Lag1 => self.packing.run::<T, Lag1>(task),

@@ -1,8 +1,6 @@
 // The tasks: a store and a cut.
 ghost use Rattle.std.specs.Prelude.{◌≡◌, [], ◌∷◌, length};
-ghost use Rattle.predict.specs.Predictor.{PredictorMeaning};
-ghost use Rattle.pack.specs.Packing.{PackingMeaning};
-ghost use Rattle.panel.specs.Stored.{store_of, Outcome};
+ghost use Rattle.panel.specs.Stored.{store_of};
 ghost use Rattle.law.specs.Calls.{new as untouched, load as Load, split as Split, cut as CutCall, close as Close, told_as, Length};
 ghost use Rattle.bench.specs.Onward.{seen, onward};
 
