@@ -1,6 +1,6 @@
 // A list of calls on one bench of the flat kind, with the same three lists throughout.
 use crate::reader::Reader;
-use crate::run::tolerance;
+use crate::run::{point, tolerance};
 use anyhow::anyhow;
 use bench::Bench;
 use kinds::Flat;
@@ -34,10 +34,7 @@ impl<'a> Call<'a> {
             }),
             5 => Ok(Call::Point {
                 at: r.size()?,
-                point: Flat {
-                    x: r.signed()?,
-                    y: r.signed()?,
-                },
+                point: point(r)?,
             }),
             _ => Err(anyhow!("there is no such call")),
         }

@@ -74,13 +74,7 @@ impl Record for StoreRecord {
 // The predictor and the packing of a record.
 fn pairing(r: &mut Reader) -> anyhow::Result<Pairing> {
     let [predictor, packing] = r.take::<2>()?;
-    let predictor = predictor
-        .try_into()
-        .map_err(|_| anyhow!("there is no such predictor"))?;
-    let packing = packing
-        .try_into()
-        .map_err(|_| anyhow!("there is no such packing"))?;
-    Ok(Pairing { predictor, packing })
+    Pairing::new(predictor, packing).map_err(|_| anyhow!("there is no such pairing"))
 }
 
 pub fn tolerance(n: u16) -> Option<u32> {
@@ -104,7 +98,7 @@ fn design<K: PointKind + Drop>(r: &mut Reader) -> anyhow::Result<Vec<K>> {
 }
 
 // A point of a record: a number for each axis.
-fn point<K: PointKind>(r: &mut Reader) -> anyhow::Result<K> {
+pub fn point<K: PointKind>(r: &mut Reader) -> anyhow::Result<K> {
     let mut numbers = [0; 3];
     for number in numbers.iter_mut().take(K::AXES) {
         *number = r.signed()?;

@@ -1,17 +1,14 @@
 -- The chain of an accepted cut.
-use Rattle.std.proofs.Common.{◌≡◌, ℕ, suc, ◌+◌, ◌-◌, ◌*◌, ◌<◌, ◌≤◌, true, List, [], ◌∷◌, map, length, get_or, take, ℤ, pos, ◌-ℤ◌, ◌*ℤ◌, nat_abs, sym, refl, ap, ◌∙◌, subst, arith}
-use Rattle.std.proofs.lemmas.List.{length-take-le}
+use Rattle.std.proofs.Common.{◌≡◌, ℕ, suc, ◌+◌, ◌-◌, ◌*◌, ◌<◌, ◌≤◌, true, List, [], ◌∷◌, map, length, get_or, ℤ, pos, ◌-ℤ◌, ◌*ℤ◌, nat_abs, sym, refl, ap, ◌∙◌, subst, arith}
 use Rattle.kinds.specs.Kind.{KindMeaning}
 use Rattle.kinds.specs.Vertex.{Vertex, at, told}
-use Rattle.range.specs.Scale.{Scale}
-use Rattle.range.specs.Scale.{quanta, width}
+use Rattle.range.specs.Scale.{Scale, IsRange, quanta, width}
 use Rattle.seam.specs.Ones.{ones}
 use Rattle.seam.specs.Seam.{all_close_by}
 use Rattle.panel.specs.Panel.{Panel, panel_of}
-use Rattle.panel.proofs.Sound.{all-take}
 use Rattle.panel.specs.Placed.{place_at, vertex, placed}
 use Rattle.std.specs.List.{AllByRecursion}
-use Rattle.std.proofs.ByRecursion.{All-map}
+use Rattle.std.proofs.ByRecursion.{All-map, All-get_or}
 use Rattle.law.specs.Program.{Chain, steps, through as through-all}
 use Rattle.law.specs.Calls.{kept}
 use Rattle.law.specs.Runs.{Cut}
@@ -22,7 +19,9 @@ use Rattle.law.proofs.Vertices.{length-placed, at-placed, vertex-tells}
 use Rattle.law.proofs.Judged.{known}
 use Rattle.law.proofs.Steps.{all-kept, all-steps}
 use Rattle.law.proofs.Lies.{length-marks, marks-near, stroke, never-falls, stands, count-strokes, some-strokes, lies_along}
-use Rattle.law.proofs.Coded.{scale-take, place-close}
+use lib.Ieee.{nan}
+use Rattle.range.proofs.Ranges.{place-near}
+use Rattle.panel.proofs.Told.{place-told, inside-told}
 use Rattle.law.proofs.Trip.{all_in, trip}
 
 pub record Placed {P : Type 0} (k : KindMeaning P) (w : Cut) (c : Chain) : Type 0 where
@@ -59,13 +58,12 @@ module _ {P : Type 0} (k : KindMeaning P) (w : Cut) (x : Panel) (meant : Meant k
   close : (gs : List Scale) (design : List P) (s : Stored k w.panel gs design) → x ≡ panel_of k gs design → (i j : ℕ) → i < length design → j < k.axes →
       2 * quanta (scale_on gs j) * nat_abs (at (told k design) i j -ℤ pos 16 *ℤ at (told k (placed k x)) i j) ≤ width (scale_on gs j) + 16 * quanta (scale_on gs j)
   close gs design s same i j h l =
-      let few : List Scale = take k.axes gs in
-      let size : length few ≡ k.axes = length-take-le k.axes gs (omega (arith, k.few_axes, s.three)) in
       let count : x.count ≡ length design = ap (λ (y : Panel). y.count) same in
       let placed_at : at (told k (placed k x)) i j ≡ place_at (panel_of k gs design).axes j i =
       ap (λ (v : Vertex). v j) (at-placed k x i (omega arith)) ∙ vertex-tells k x sized i j ∙ ap (λ (y : Panel). place_at y.axes j i) same in
-      let zero-on : 0 + j ≡ j = omega arith in
-      rw (placed_at, ← scale-take k.axes gs j l) (rw zero-on at (place-close k design few 0 j i (all-take k.axes gs s.ranges) (omega arith) h (all_in k w.panel gs design s)))
+      let g : Scale = record { bits = 0; lower = nan; upper = nan } in
+      let is : IsRange (scale_on gs j) = All-get_or IsRange gs j g (omega (arith, k.few_axes, s.three)) s.ranges in
+      rw (placed_at, place-told k gs design s.three j l g i h) (place-near (scale_on gs j) is (at (told k design) i j) (inside-told k gs design s.three j l g i h (all_in k w.panel gs design s)))
 
   by-stroke : (gs : List Scale) (design : List P) → Stored k w.panel gs design → (i : ℕ) → i < length design →
       ByStroke k w.tolerance gs design chain_of i (stroke k w.tolerance x many i)

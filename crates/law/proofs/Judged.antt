@@ -6,12 +6,9 @@ use Rattle.predict.specs.Predictor.{PredictorMeaning}
 use Rattle.pack.specs.Packing.{ReadingMeaning}
 use Rattle.panel.specs.Words.{word}
 use Rattle.panel.specs.Panel.{Axis, Panel}
+use Rattle.panel.proofs.PanelBack.{then_was}
 use Rattle.law.proofs.Arms.{not_then, not_else, err_ok}
 use Rattle.panel.specs.Judging.{and_then, counted, head_at, end_at, Rest, axis_at, more, axes_at, judged}
-
-and-then-ok : {X Y E : Type 0} (r : Result X E) (f : X → Result Y E) (y : Y) → and_then r f ≡ Ok y → (x : X) × (r ≡ Ok x) × (f x ≡ Ok y)
-and-then-ok (Ok x) f y e = (x, refl, e)
-and-then-ok (Err z) f y e = absurd (err_ok e)
 
 counted-ok : (room w n : ℕ) → counted room w ≡ Ok n → (2 ≤ n) × (n ≤ 4096) × (counted 4096 w ≡ Ok n)
 counted-ok room w n e =
@@ -46,7 +43,7 @@ module _ (m : PredictorMeaning) (q : ReadingMeaning) where
   unfolding axes_at
   axes-sized n zero r y e = let same : ◌≡◌ {A = List Axis × Rest} ([], r) y = cc in ap (λ (p : List Axis × Rest). length p.0) (sym same)
   axes-sized n (suc a) r y e =
-      let g = and-then-ok (axis_at m q n r) _ y e in
+      let g = then_was (axis_at m q n r) _ y e in
       let h = more-ok n g.0.0 (axes_at m q n a g.0.1) y g.2 in
       h.2 ∙ ap suc (axes-sized n a g.0.1 h.0 h.1)
 
@@ -61,9 +58,9 @@ module _ (m : PredictorMeaning) (q : ReadingMeaning) where
     pub known : Known
     unfolding judged
     known =
-        let a = and-then-ok (head_at axes m.number q.number room file) _ x e in
-        let b = and-then-ok (axes_at m q a.0 axes (drop 8 file, 8)) _ x a.2 in
-        let c = and-then-ok (end_at b.0.1.1 b.0.1.0) _ x b.2 in
+        let a = then_was (head_at axes m.number q.number room file) _ x e in
+        let b = then_was (axes_at m q a.0 axes (drop 8 file, 8)) _ x a.2 in
+        let c = then_was (end_at b.0.1.1 b.0.1.0) _ x b.2 in
         let h = head_ok axes m.number q.number room a.0 file a.1 in
         let made : record { count = a.0; axes = b.0.0 } ≡ x = let i = c.2 in cc in
         record {

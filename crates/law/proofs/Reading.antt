@@ -1,39 +1,21 @@
 -- A program is read in one way at most.
-use Rattle.std.proofs.Common.{◌≡◌, ℕ, Bool, true, false, cond, List, [], ◌∷◌, ◌++◌, length, get_or, ℤ, sym, refl, ap, ◌∙◌, ap₂, arith, w32, to_z, of_z}
-use mir.Facts.{Fits-of_z}
+use Rattle.std.proofs.Common.{◌≡◌, ℕ, Bool, true, false, cond, List, [], ◌∷◌, ◌++◌, length, get_or, ℤ, sym, refl, ap, ◌∙◌, ap₂, arith, take, drop}
+use Rattle.std.proofs.Math.Seq.{take-append_seam, drop-append_seam}
 use Rattle.std.specs.List.{flat_map, AllByRecursion}
 use Rattle.std.proofs.lemmas.List.{append_assoc}
-use Rattle.std.proofs.lemmas.Int.{to_z-of_z}
 use Rattle.predict.specs.Wrap.{Word}
-use Rattle.pack.specs.Plain.{length_spelled}
-use Rattle.panel.specs.Words.{le32, word}
-use Rattle.std.proofs.lemmas.Nat.{from_le_bytes-to_le_bytes_4}
-use Rattle.law.specs.Program.{Chain, spelled, stroke, finish, chain_bytes, program_bytes}
+use Rattle.pack.specs.Plain.{length_spelled, spelled, words_of, words-spelled}
+use Rattle.law.specs.Program.{Chain, stroke, finish, chain_bytes, program_bytes}
 use Rattle.law.specs.Law.{Steps, Whole, ReadsOnce}
 
 apart : {X : Type 0} (xs ys us vs : List X) → length xs ≡ length ys → xs ++ us ≡ ys ++ vs → (xs ≡ ys) × (us ≡ vs)
-apart [] [] us vs h e = (refl, e)
-apart [] (y ∷ ys) us vs h e = absurd (omega arith)
-apart (x ∷ xs) [] us vs h e = absurd (omega arith)
-apart (x ∷ xs) (y ∷ ys) us vs h e =
-    let a : x ≡ y = cc in
-    let b : xs ++ us ≡ ys ++ vs = cc in
-    let r = apart xs ys us vs (omega arith) b in
-    let s = r.0 in
-    (cc, r.1)
-
-word-once : (z w : ℤ) → Word z → Word w → le32 (of_z w32 z) ≡ le32 (of_z w32 w) → z ≡ w
-word-once z w a b e =
-    let f : of_z w32 z ≡ of_z w32 w = sym (from_le_bytes-to_le_bytes_4 (of_z w32 z) (Fits-of_z a).fits) ∙ ap (λ (bs : List ℕ). word bs 0) e ∙ from_le_bytes-to_le_bytes_4 (of_z w32 w) (Fits-of_z b).fits in
-    sym (to_z-of_z w32 z a) ∙ ap (to_z w32) f ∙ to_z-of_z w32 w b
+apart xs ys us vs h e = (
+  sym (take-append_seam xs us) ∙ ap₂ take h e ∙ take-append_seam ys vs,
+  sym (drop-append_seam xs us) ∙ ap₂ drop h e ∙ drop-append_seam ys vs,
+)
 
 spelled-once : (zs ws : List ℤ) → length zs ≡ length ws → AllByRecursion Word zs → AllByRecursion Word ws → spelled zs ≡ spelled ws → zs ≡ ws
-spelled-once [] [] h a b e = refl
-spelled-once [] (w ∷ ws) h a b e = absurd (omega arith)
-spelled-once (z ∷ zs) [] h a b e = absurd (omega arith)
-spelled-once (z ∷ zs) (w ∷ ws) h a b e =
-    let r = apart (le32 (of_z w32 z)) (le32 (of_z w32 w)) (spelled zs) (spelled ws) refl e in
-    ap₂ (λ (y : ℤ) (ys : List ℤ). y ∷ ys) (word-once z w a.0 b.0 r.0) (spelled-once zs ws (omega arith) a.1 b.1 r.1)
+spelled-once zs ws h a b e = sym (words-spelled zs a) ∙ ap₂ words_of h e ∙ words-spelled ws b
 
 module _ (axes : ℕ) where
   steps-once : (zs ws : List ℤ) (us vs : List ℕ) → Steps axes zs → Steps axes ws → spelled zs ++ us ≡ spelled ws ++ vs → (zs ≡ ws) × (us ≡ vs)

@@ -15,7 +15,7 @@ use Rattle.panel.specs.Judging.{and_then, Rest, head_at, range_at, length_at, en
 use Rattle.panel.specs.Placed.{filled, placed, load_of}
 use Rattle.load.specs.Steps.{count_of}
 use Rattle.load.specs.Filling.{fill_by}
-use Rattle.load.proofs.Firsts.{apart}
+use Rattle.panel.proofs.PanelBack.{ok_ne_err, then_was}
 use Rattle.load.proofs.Points.{points-are}
 
 module _ (m : PredictorMeaning) (q : ReadingMeaning) (n : ℕ) where
@@ -70,6 +70,11 @@ module _ (m : PredictorMeaning) (q : ReadingMeaning) (n : ℕ) where
   full zero p = (refl, tt)
   full (suc j) p = on-axis j (axis_at m q n p) (axis-long p) (full j)
 
+-- a file that has so many vertices means a panel of as many
+counted_was : (r : Result Panel Refusal) (n : ℕ) → count_of r ≡ Ok n → (x : Panel) × (r ≡ Ok x) × (x.count ≡ n)
+counted_was (Ok x) n c = (x, refl, cc)
+counted_was (Err d) n c = absurd (ok_ne_err (sym c))
+
 module _ (m : PredictorMeaning) (q : ReadingMeaning) (axes room : ℕ) (file : List ℕ) where
   -- the axes of an accepted file
   pub record Accepted (n : ℕ) (judging : Result Panel Refusal) : Type 0 where
@@ -78,28 +83,16 @@ module _ (m : PredictorMeaning) (q : ReadingMeaning) (axes room : ℕ) (file : L
     pub axes_are : axes_at m q n axes (drop 8 file, 8) ≡ Ok (panel, rest)
     pub reads : judging ≡ Ok (record { count = n; axes = panel })
 
-  by_end : (n k : ℕ) (y : List Axis × Rest) (u : Result (Unit {0}) Refusal) → axes_at m q k axes (drop 8 file, 8) ≡ Ok y →
-      count_of (and_then u (λ _. Ok (record { count = k; axes = y.0 }))) ≡ Ok n → Accepted n (and_then u (λ _. Ok (record { count = k; axes = y.0 })))
-  by_end n k y (Ok tt) a c =
-      let same : k ≡ n = cc in
-      record { panel = y.0; rest = y.1; axes_are = ap (λ i. axes_at m q i axes (drop 8 file, 8)) (sym same) ∙ a; reads = ap (λ i. Ok (record { count = i; axes = y.0 })) same }
-  by_end n k y (Err d) a c = absurd (apart (sym c))
-
-  by_axes : (n k : ℕ) (r : Result (List Axis × Rest) Refusal) → axes_at m q k axes (drop 8 file, 8) ≡ r →
-      count_of (and_then r (λ x. and_then (end_at x.1.1 x.1.0) (λ _. Ok (record { count = k; axes = x.0 })))) ≡ Ok n →
-      Accepted n (and_then r (λ x. and_then (end_at x.1.1 x.1.0) (λ _. Ok (record { count = k; axes = x.0 }))))
-  by_axes n k (Ok y) a c = by_end n k y (end_at y.1.1 y.1.0) a c
-  by_axes n k (Err d) a c = absurd (apart (sym c))
-
-  by_head : (n : ℕ) (r : Result ℕ Refusal) →
-      count_of (and_then r (λ k. and_then (axes_at m q k axes (drop 8 file, 8)) (λ x. and_then (end_at x.1.1 x.1.0) (λ _. Ok (record { count = k; axes = x.0 }))))) ≡ Ok n →
-      Accepted n (and_then r (λ k. and_then (axes_at m q k axes (drop 8 file, 8)) (λ x. and_then (end_at x.1.1 x.1.0) (λ _. Ok (record { count = k; axes = x.0 })))))
-  by_head n (Ok k) c = by_axes n k (axes_at m q k axes (drop 8 file, 8)) refl c
-  by_head n (Err d) c = absurd (apart (sym c))
-
   pub accepted : (n : ℕ) → count_of (judged m q axes room file) ≡ Ok n → Accepted n (judged m q axes room file)
   unfolding judged
-  accepted n c = by_head n (head_at axes m.number q.number room file) c
+  accepted n c =
+      let p = counted_was (judged m q axes room file) n c in
+      let a = then_was (head_at axes m.number q.number room file) _ p.0 p.1 in
+      let b = then_was (axes_at m q a.0 axes (drop 8 file, 8)) _ p.0 a.2 in
+      let e = then_was (end_at b.0.1.1 b.0.1.0) _ p.0 b.2 in
+      let made : record { count = a.0; axes = b.0.0 } ≡ p.0 = let i = e.2 in cc in
+      let same : a.0 ≡ n = ap (λ (x : Panel). x.count) made ∙ p.2 in
+      record { panel = b.0.0; rest = b.0.1; axes_are = ap (λ i. axes_at m q i axes (drop 8 file, 8)) (sym same) ∙ b.1; reads = p.1 ∙ sym (ap Ok made) ∙ ap (λ i. Ok (record { count = i; axes = b.0.0 })) same }
 
 pub placed_all : {P : Type 0} (k : KindMeaning P) (m : PredictorMeaning) (q : ReadingMeaning) (file : List ℕ) (old out : List P) (n : ℕ) → n ≤ length old →
     count_of (judged m q k.axes (length old) file) ≡ Ok n → out ≡ fill_by k 0 (axes_at m q n k.axes (drop 8 file, 8)) old →

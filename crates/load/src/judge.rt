@@ -18,7 +18,7 @@ pub fn file<K: PointKind, P: Predictor, Q: Unpacking>(
     room: usize,
 ) -> Result<VertexCount, Refusal>
     ensures value { result ≡ count_of (judged P.means Q.reading K.kind.axes room file.now) }
-    ensures count { IfOk result (λ n. (n ≤ room) × (8 ≤ length file.now)) }
+    ensures count { IfOk result (λ n. (n ≤ room) × (HEAD_SIZE ≤ length file.now)) }
 {
     let (n, rest) = head::<K, P, Q>(file, room)?;
     behind_head::<P, Q>(rest, K::AXES, n)?;
@@ -44,7 +44,7 @@ fn head<'a, K: PointKind, P: Predictor, Q: Unpacking>(
 ) -> Result<(VertexCount, Rest<'a>), Refusal>
     ensures value { let axes = K.kind.axes in
         result ≡ head_taken axes P.means.number Q.reading.number room file.now }
-    ensures count { IfOk result (λ x. (x.0 ≤ room) × (8 ≤ length file.now)) }
+    ensures count { IfOk result (λ x. (x.0 ≤ room) × (HEAD_SIZE ≤ length file.now)) }
 {
     let rest = Rest::of(file, 0);
     rest.must_have(HEAD_SIZE)?;

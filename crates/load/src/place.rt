@@ -24,7 +24,7 @@ pub fn place<K: PointKind + Copy, P: Predictor, Q: Unpacking>(
     points: &mut [K],
 )
     requires room { n ≤ length points.old }
-    requires headed { 8 ≤ length file.now }
+    requires headed { HEAD_SIZE ≤ length file.now }
     requires accepted { let room = length points.old in
         count_of (judged P.means Q.reading K.kind.axes room file.now) ≡ Ok n }
     ensures { ◌≡◌ {A = Result ℕ Refusal × List K} (Ok n, points.new)

@@ -17,9 +17,6 @@ greatest-under (f ∷ fs) m h all = let rest = greatest-under fs m h all.1 in le
 pub width-least : (fs : List ℕ) (v : ℕ) → AllBelowBase (2 ^ v) fs → width_of fs ≤ v
 width-least fs v all = length-digits_of-le 2 v (greatest fs) (lit≤ tt) (greatest-under fs (2 ^ v) (pow_pos v) all)
 
-ordered : (a b : ℤ) → a ≤ℤ b → b ≤ℤ a → a ≡ b
-ordered a b h k = omega (arith, ints)
-
 least-in : (xs : List ℤ) → 0 < length xs → Contains xs (least xs)
 least-in [] h = absurd (omega arith)
 least-in (x ∷ xs) h = elim (fold-int_min_reached x xs (fold int_min x xs) refl) [
@@ -30,9 +27,9 @@ least-in (x ∷ xs) h = elim (fold-int_min_reached x xs (fold int_min x xs) refl
 -- the least is the one entry that none is below
 pub least_is : (xs : List ℤ) (m : ℤ) → All (λ x. m ≤ℤ x) xs → Contains xs m → m ≡ least xs
 least_is xs m low has =
-    ordered m (least xs)
-    (All-contains (λ x. m ≤ℤ x) xs (least xs) low (least-in xs (omega (arith, has.1))))
-    (All-contains (λ x. least xs ≤ℤ x) xs m (All-from_recursion _ xs (least-low xs)) has)
+    let under = All-contains (λ x. m ≤ℤ x) xs (least xs) low (least-in xs (omega (arith, has.1))) in
+    let over = All-contains (λ x. least xs ≤ℤ x) xs m (All-from_recursion _ xs (least-low xs)) has in
+    omega (arith, ints)
 
 -- the width of the greatest of some fields
 pub width_by : (fs : List ℕ) (most w : ℕ) → All (λ f. f ≤ most) fs → Contains fs most → most < 2 ^ w → ((v : ℕ) → most < 2 ^ v → w ≤ v) → w ≡ width_of fs

@@ -187,6 +187,7 @@ fn spare_bits(bytes: &[u8], k: usize) -> u8
 }
 
 // The number that at most eight bytes write, the highest first.
+#[tactic(auto, using(crate::proofs::Bits::padded_read))]
 fn number_of(bytes: &[u8]) -> u64
     requires { length bytes.now ≤ 8 }
     ensures { result ≡ number_from_digits 256 bytes.now }
@@ -319,6 +320,7 @@ impl<'a> Framed<'a> {
         Framed { list, base, width }
     }
 
+    #[tactic(auto, using(crate::proofs::Reading::length_written))]
     fn body_length(&self) -> usize
         ensures size { result ≡ length (fielded_writes self.now.list.now) }
         ensures short { result ≤ 8 + 4 * length self.now.list.now }
@@ -361,6 +363,7 @@ impl<'a> Framed<'a> {
 }
 
 // Where a field's bits lie, which bodies are accepted, and figures reckoned by hand.
+#[tactic(auto, using(crate::proofs::Reading::high_first, crate::proofs::Only::only_packed))]
 pub fn fields_high_first()
     ensures bits { HighFirst }
     ensures bodies { OnlyPacked }

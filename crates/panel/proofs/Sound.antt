@@ -1,27 +1,23 @@
 -- The panel of design points that lie in their ranges is sound, and so its file is read back.
-use Rattle.std.proofs.Common.{◌≡◌, ℕ, zero, suc, ◌+◌, ◌^◌, ◌<◌, true, List, [], ◌∷◌, length, take, ℤ, Ok, sym, refl, ap, ◌∙◌, subst, arith}
+use Rattle.std.proofs.Common.{◌≡◌, ℕ, ◌+◌, ◌^◌, ◌<◌, true, List, [], ◌∷◌, length, take, ℤ, Ok, sym, refl, ◌∙◌, subst, arith}
 use lib.Ieee.{binary32}
 use lib.Ieee.Bits.{of_bits-to_bits, to_bits-lt}
-use Rattle.std.specs.List.{AllByRecursion}
-use Rattle.std.proofs.lemmas.List.{length-take-le}
+use Rattle.std.specs.List.{AllByRecursion, enumerate_from}
+use Rattle.std.proofs.ByRecursion.{All-take}
+use Rattle.std.proofs.lemmas.List.{length-take-le, length-map}
+use Rattle.std.proofs.lemmas.List.FromFn.{length-enumerate_from}
 use Rattle.std.proofs.lemmas.Bool.{and_parts, and_from}
 use Rattle.kinds.specs.Kind.{KindMeaning}
 use Rattle.predict.specs.Wrap.{Word}
 use Rattle.range.specs.Scale.{Scale, IsRange, is_code, quanta}
 use Rattle.range.proofs.Ranges.{stays, code-within, code-nat, quanta-small}
-use Rattle.range.proofs.Scaled.{passes}
+use Rattle.std.proofs.lemmas.Float.{T_from_true as passes}
 use Rattle.panel.specs.Panel.{inside_on, codes_on, axes_from, inside_from, panel_of}
 use Rattle.panel.specs.Written.{written}
 use Rattle.panel.specs.Judging.{all_codes, judged}
 use Rattle.panel.specs.Laws.{EveryFileReadBack}
 use Rattle.panel.proofs.PieceBack.{Sound}
 use Rattle.panel.proofs.PanelBack.{SoundAxis, panel-back}
-
--- the first of some ranges are ranges
-pub all-take : (n : ℕ) (gs : List Scale) → AllByRecursion IsRange gs → AllByRecursion IsRange (take n gs)
-all-take zero gs are = tt
-all-take (suc n) [] are = tt
-all-take (suc n) (g ∷ gs) are = (are.0, all-take n gs are.1)
 
 pub sound : (g : Scale) → IsRange g → Sound g
 sound g is = record {
@@ -53,8 +49,7 @@ module _ {P : Type 0} (k : KindMeaning P) where
 
   pub length-codes : (s : Scale) (a : ℕ) (ps : List P) → length (codes_on k a s ps) ≡ length ps
   unfolding codes_on
-  length-codes s a [] = refl
-  length-codes s a (p ∷ ps) = ap suc (length-codes s a ps)
+  length-codes s a ps = length-map ps _
 
   pub axes-sound : (ps : List P) (a : ℕ) (gs : List Scale) → AllByRecursion IsRange gs → inside_from k ps a gs ≡ true → AllByRecursion (SoundAxis (length ps)) (axes_from k ps a gs)
   unfolding inside_from axes_from
@@ -66,11 +61,10 @@ module _ {P : Type 0} (k : KindMeaning P) where
 
   pub length-axes : (ps : List P) (a : ℕ) (gs : List Scale) → length (axes_from k ps a gs) ≡ length gs
   unfolding axes_from
-  length-axes ps a [] = refl
-  length-axes ps a (g ∷ gs) = ap suc (length-axes ps (a + 1) gs)
+  length-axes ps a gs = length-map (enumerate_from a gs) _ ∙ length-enumerate_from a gs
 
-  pub every-file-read-back : EveryFileReadBack k
-  every-file-read-back m q ps gs room are counted enough wide inside =
+  pub every_file_read_back : EveryFileReadBack k
+  every_file_read_back m q ps gs room are counted enough wide inside =
       let long : length (axes_from k ps 0 (take k.axes gs)) ≡ k.axes = length-axes ps 0 (take k.axes gs) ∙ length-take-le k.axes gs wide in
       subst (λ (a : ℕ). judged m q.reading a room (written m q (panel_of k gs ps)) ≡ Ok (panel_of k gs ps)) long
-      (panel-back m q (panel_of k gs ps) room counted enough (axes-sound ps 0 (take k.axes gs) (all-take k.axes gs are) inside))
+      (panel-back m q (panel_of k gs ps) room counted enough (axes-sound ps 0 (take k.axes gs) (All-take IsRange k.axes gs are) inside))

@@ -1,6 +1,7 @@
 -- The panel that a file means, or why it is refused and where: pieces in the order of the file, and within a piece the
 -- smaller number first.
-use Rattle.std.specs.Prelude.{ℕ, zero, suc, ◌+◌, Bool, true, cond, ◌&&◌, List, [], ◌∷◌, length, take, drop, ℤ, Some, None, Ok, Err, Option, Result, ◌==◌, from_bits, nat_lt, slice_index, Float}
+use Rattle.std.specs.Prelude.{ℕ, zero, suc, ◌+◌, Bool, cond, List, [], ◌∷◌, length, take, drop, ℤ, Some, None, Ok, Err, Option, Result, ◌==◌, from_bits, nat_lt, slice_index, Float}
+use Rattle.std.specs.List.{list_all}
 use Rattle.std.specs.Float.{binary32}
 use Rattle.refusal.specs.declared.Why.{Why}
 use Rattle.refusal.specs.declared.Why.TheVariants.{Truncated, Letter, AxisCount, PredictorByte, PackingByte, VertexCount, ShortList, Code, Trailing}
@@ -64,8 +65,7 @@ end_at at bs = piece 1 0x45 at bs (cond (length bs == 1) (Ok tt) (refuse Trailin
 
 -- every code is one of the scale's
 unfoldable pub all_codes : Scale → List ℤ → Bool
-all_codes s [] = true
-all_codes s (c ∷ cs) = is_code s c && all_codes s cs
+all_codes s cs = list_all (is_code s) cs
 
 -- codes, if each is one of the scale
 abbrev pub coded : ℕ → Scale → List ℤ → Result (List ℤ) Refusal

@@ -36,14 +36,11 @@ pub fn store<K: PointKind, P: Predictor, Q: Packing>(
     if design.len() < FEWEST_VERTICES || design.len() > MOST_VERTICES {
         return Err(Why::VertexCount.into());
     }
-    if work.len() < design.len() {
-        return Err(Why::ShortList.into());
-    }
+    let work = work.get_mut(..design.len()).ok_or(Why::ShortList)?;
     let ranges = &ranges[..K::AXES];
     if !are_inside(design, ranges) {
         return Err(Why::OutOfRange.into());
     }
-    let work = &mut work[..design.len()];
     let design = Design {
         points: design,
         ranges,
@@ -52,6 +49,7 @@ pub fn store<K: PointKind, P: Predictor, Q: Packing>(
 }
 
 // A store that says yes wrote the file of its points, and every such file is read back.
+#[tactic(auto, using(crate::proofs::Sound::every_file_read_back))]
 pub fn files_come_back<K: PointKind>()
     ensures writes { StoresTheFile K.kind }
     ensures back { EveryFileReadBack K.kind }

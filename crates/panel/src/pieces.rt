@@ -4,6 +4,7 @@ ghost use Rattle.panel.specs.Bytes.{overwritten};
 ghost use Rattle.panel.specs.Written.{head_piece, range_piece, length_piece};
 
 use range::range::Range;
+use range::words::Words;
 
 // N: the axis count, the predictor, the packing and the vertex count.
 pub const HEAD_LETTER: u8 = b'N';
@@ -35,9 +36,10 @@ pub(crate) fn head_piece(axes: u8, predictor: u8, packing: u8, count: u32) -> [u
 pub(crate) fn range_piece(range: &Range) -> [u8; RANGE_SIZE]
     ensures { result ≡ range_piece range.now }
 {
-    let [a, b, c, d] = range.lower_word().to_le_bytes();
-    let [e, f, g, h] = range.upper_word().to_le_bytes();
-    [RANGE_LETTER, range.bits(), a, b, c, d, e, f, g, h]
+    let Words { bits, lower, upper } = (*range).into();
+    let [a, b, c, d] = lower.to_le_bytes();
+    let [e, f, g, h] = upper.to_le_bytes();
+    [RANGE_LETTER, bits, a, b, c, d, e, f, g, h]
 }
 
 pub(crate) fn length_piece(length: u32) -> [u8; LENGTH_SIZE]

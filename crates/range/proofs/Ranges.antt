@@ -10,7 +10,9 @@ use Rattle.range.specs.Units.{good_end, units_of}
 use Rattle.range.proofs.Coding as Coding
 use Rattle.range.proofs.Meaning.{plain-same}
 use Rattle.range.proofs.Rounded.{top_small}
-use Rattle.range.proofs.Scaled.{holds, passes, units_small}
+use Rattle.std.proofs.lemmas.Float.{T_from_true as passes}
+use lib.Ieee.Bits.{is_true as holds}
+use Rattle.range.proofs.Scaled.{units_small}
 
 -- a test of two orders, passed
 from-test : (a b c : ℤ) → (le_z a b && le_z b c) ≡ true → (a ≤ℤ b) × (b ≤ℤ c)

@@ -1,8 +1,7 @@
 // A range: a bit count and two ends in millimetres; the codes of design coordinates, and the places of codes.
-ghost use Rattle.std.specs.Prelude.{◌≡◌, ◌+◌, ◌*◌, ◌/◌, ◌^◌, ◌<◌, ◌≤◌, true, pos, ◌-ℤ◌, ◌<ℤ◌, if◌then◌else◌, Some, None, IfSome, from_bits, to_bits, unsigned_abs};
-ghost use Rattle.std.specs.Float.{binary32};
+ghost use Rattle.std.specs.Prelude.{◌≡◌, ◌+◌, ◌*◌, ◌/◌, ◌^◌, ◌<◌, ◌≤◌, true, pos, ◌-ℤ◌, ◌<ℤ◌, if◌then◌else◌, Some, None, IfSome, unsigned_abs};
 ghost use Rattle.std.specs.Int.{int_div_euclid};
-ghost use Rattle.range.specs.Scale.{Made, Reads, IsCode, IsRange, code_in, highest, inside, is_code, lowest, place_in, quanta, width as width_of};
+ghost use Rattle.range.specs.Scale.{Made, Reads, IsCode, IsRange, code_in, highest, in_words, inside, is_code, lowest, place_in, quanta, said_by, width as width_of};
 
 use crate::ends::{
     FARTHEST_UNITS, MOST_BITS, end_units, end_word, is_below, is_end, without_sign_of_zero,
@@ -37,7 +36,7 @@ impl Range {
     pub fn new(bits: u8, lower: f32, upper: f32) -> Result<Range, Why>
         ensures { Made bits lower upper result }
     {
-        if bits < 1 || MOST_BITS < bits {
+        if !(1..=MOST_BITS).contains(&bits) {
             return Err(Why::Bits);
         }
         if !is_end(lower) || !is_end(upper) {
@@ -56,22 +55,6 @@ impl Range {
         ensures sound { IsRange self.now }
     {
         self.bits
-    }
-
-    // The lower end's word, as a file has it: read back, it is the end.
-    pub fn lower_word(&self) -> u32
-        ensures value { result ≡ to_bits binary32 self.now.lower }
-        ensures back { from_bits binary32 result ≡ self.now.lower }
-    {
-        end_word(self.lower)
-    }
-
-    // The upper end's word.
-    pub fn upper_word(&self) -> u32
-        ensures value { result ≡ to_bits binary32 self.now.upper }
-        ensures back { from_bits binary32 result ≡ self.now.upper }
-    {
-        end_word(self.upper)
     }
 
     pub fn lower_units(&self) -> i32
@@ -100,14 +83,14 @@ impl Range {
     pub fn holds(&self, v: i32) -> bool
         ensures { result ≡ inside self.now v }
     {
-        self.lower_units() <= v && v <= self.upper_units()
+        (self.lower_units()..=self.upper_units()).contains(&v)
     }
 
     // Whether a number is a code of the range.
     pub fn is_code(&self, c: i32) -> bool
         ensures { result ≡ is_code self.now c }
     {
-        0 <= c && c <= self.top() as i32
+        (0..=self.top() as i32).contains(&c)
     }
 
     // The code of a design coordinate in units, if the range holds it.
@@ -187,6 +170,19 @@ impl TryFrom<Words> for Range {
             f32_from_bits_with_nan(words.lower),
             f32_from_bits_with_nan(words.upper),
         )
+    }
+}
+
+// The words that a file has of a range: read back, they say the same bits and ends.
+impl From<Range> for Words {
+    ghost from_gives = { λ range words. (words ≡ in_words range) × (said_by words ≡ range) };
+
+    fn from(range: Range) -> Words {
+        Words {
+            bits: range.bits,
+            lower: end_word(range.lower),
+            upper: end_word(range.upper),
+        }
     }
 }
 

@@ -22,8 +22,8 @@ module _ (vs : List Vertex) (t n : ℕ) (before ms : List ℕ) (some : 2 ≤ n) 
   kept_near =
       let here = tree_local (pick vs t) (pick-inner vs t) 0 (n - 1) (omega arith) (ends n before) in
       rw e (record {
-        first = here.1 0 (inl (omega arith)) ∙ ends-first n before some fits;
-        last = here.1 (n - 1) (inr (omega arith)) ∙ ends_last n before some fits;
+        first = here 0 (inl (omega arith)) ∙ ends-first n before some fits;
+        last = here (n - 1) (inr (omega arith)) ∙ ends_last n before some fits;
         chords = λ p q h l ep eq none. flat_near vs t p q (tree-chain (pick vs t) (pick-inner vs t) 0 (n - 1) (omega arith) (ends n before) (omega (arith, length-ends n before some fits)) (ends-zero n before some fits) p q (omega arith) h (omega arith) (inr ep) (inr eq) none);
       })
 

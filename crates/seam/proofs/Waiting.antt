@@ -1,8 +1,8 @@
 -- The loop over the chords: the one in hand and those that wait.
-use Rattle.std.proofs.Common.{◌≡◌, ℕ, ◌+◌, ◌-◌, ◌<◌, ◌≤◌, max, cond, Bool, true, false, leb, List, [], ◌∷◌, ◌++◌, map, reverse, length, set, Some, None, Option, sym, refl, ◌∙◌, arith}
+use Rattle.std.proofs.Common.{◌≡◌, ℕ, ◌+◌, ◌-◌, ◌<◌, ◌≤◌, max, cond, Bool, true, false, leb, List, [], ◌∷◌, ◌++◌, map, reverse, length, set, Some, None, Option, sym, ◌∙◌, arith}
 use Rattle.std.specs.List.{All}
 use Rattle.std.proofs.lemmas.List.{length-append, length-map, length-reverse, map-append, reverse-append}
-use Rattle.std.proofs.lemmas.List.Elements.{All-nil, All-push, All-pop}
+use Rattle.std.proofs.lemmas.List.Elements.{All-push, All-pop}
 use Rattle.seam.specs.Chord.{chord, parts_of}
 use Rattle.seam.specs.Split.{Tree, whole, parted, tree, kept, waits, marked}
 use Rattle.seam.specs.declared.chord.Chord.{Chord}
@@ -58,17 +58,6 @@ pub record Going (pick : ℕ → ℕ → Option ℕ) (last : ℕ) (before : List
   pub deep : length ws ≤ most
   pub proper : Proper last x
   pub each : All (Proper last) ws
-
--- before the first turn none waits
-pub start : (pick : ℕ → ℕ → Option ℕ) (last : ℕ) (ms : List ℕ) (ws : List Chord) → 0 < last → ws ≡ [] → Going pick last ms ws 0 0 (chord 0 last) ms
-start pick last ms ws h e = rw e (record {
-  marks = refl;
-  counts = omega arith;
-  waiting = omega arith;
-  deep = omega arith;
-  proper = omega arith;
-  each = All-nil (Proper last);
-})
 
 module _ {pick : ℕ → ℕ → Option ℕ} (law : Inner pick) {last : ℕ} {before : List ℕ} {ws : List Chord} {most count : ℕ} {x : Chord} {ms : List ℕ}
     (g : Going pick last before ws most count x ms) (small : last < 4096) where

@@ -33,7 +33,7 @@ pub fn split<K: PointKind>(
     ensures sound { let line = told K.kind (take count points.now) in
         SoundAnswer line tolerance count marks.new result }
 {
-    let tolerance = Tolerance::new(tolerance)?;
+    let tolerance = Tolerance::try_from(tolerance)?;
     let count = VertexCount::new(count).ok_or(Why::VertexCount)?.get();
     if points.len() < count || marks.len() < count {
         return Err(Why::ShortList);

@@ -1,5 +1,5 @@
 // A line of vertices that is split, and how.
-ghost use Rattle.std.specs.Prelude.{◌≡◌, ◌+◌, ◌-◌, ◌<◌, ◌≤◌, length, MatchResult, true, false, ◌&&◌, nat_le, slice_set, unsigned_abs};
+ghost use Rattle.std.specs.Prelude.{◌≡◌, ◌+◌, ◌-◌, ◌<◌, ◌≤◌, IfErr, IfOk, length, MatchResult, true, false, ◌&&◌, nat_le, slice_set, unsigned_abs};
 ghost use Rattle.std.specs.List.{All, list_all};
 ghost use Rattle.refusal.specs.declared.Why.TheVariants.{Tolerance as tooLoose, Unfit};
 ghost use Rattle.kinds.specs.Count.{IsVertexCount};
@@ -33,11 +33,16 @@ pub(crate) struct Tolerance {
 
 impl Tolerance {
     const MOST: u32 = 256;
+}
 
-    pub(crate) fn new(steps: u32) -> Result<Tolerance, Why>
-        ensures { MatchResult result (λ t. t.steps ≡ steps)
-            (λ why. (why ≡ tooLoose) × (256 < steps)) }
-    {
+// The tolerance that a caller names.
+impl TryFrom<u32> for Tolerance {
+    type Error = Why;
+
+    ghost try_from_gives = { λ steps r.
+        IfOk r (λ t. t.steps ≡ steps) × IfErr r (λ why. (256 < steps) × (why ≡ tooLoose)) };
+
+    fn try_from(steps: u32) -> Result<Tolerance, Why> {
         if steps > Tolerance::MOST {
             return Err(Why::Tolerance);
         }
@@ -69,7 +74,6 @@ impl<'a, K: PointKind> Line<'a, K> {
     }
 
     // The place of vertex `i`.
-    #[tactic(auto, using(crate::proofs::Vertices::told_at))]
     fn place(&self, i: usize) -> Place
         requires { i < length self.now.points.now }
         ensures { vertex_at result ≡ vertex (told K.kind self.now.points.now) i }
@@ -229,7 +233,7 @@ fn clear(marks: &mut [u8], n: usize)
 
 // Whether a coordinate lies within the bench.
 fn on_bench(z: i32) -> bool
-    ensures { result ≡ nat_le (unsigned_abs z) 1048576 }
+    ensures { result ≡ nat_le (unsigned_abs z) FARTHEST }
 {
     z.unsigned_abs() <= FARTHEST
 }

@@ -1,7 +1,7 @@
 // Places within the bench, axes, and how far one place lies from another.
 ghost use Rattle.std.specs.Prelude.{◌≡◌, ◌^◌, ◌≤◌, pos, ◌-ℤ◌, ◌*ℤ◌, unsigned_abs};
 ghost use Rattle.seam.specs.Axis.{on_axis, way_of, going};
-ghost use Rattle.seam.specs.Weight.{OnBench, IsOnBench, triple, m_of, major_of, clamped};
+ghost use Rattle.seam.specs.Weight.{OnBench, IsOnBench, triple, from_to, m_of, major_of, clamped};
 
 use kinds::PointKind;
 
@@ -106,7 +106,7 @@ impl Distance {
     }
 
     // The product of two distances.
-    #[tactic(auto, using(crate::proofs::Sizes::product_bound, crate::proofs::Sizes::product_back))]
+    #[tactic(auto, using(crate::proofs::Sizes::product_back))]
     pub(crate) fn times(self, other: Distance) -> i64
         ensures value { result ≡ self.steps *ℤ other.steps }
         ensures bound { unsigned_abs result ≤ 2 ^ 42 }
@@ -124,11 +124,11 @@ pub(crate) struct Run {
 }
 
 impl Run {
-    #[tactic(auto, using(crate::proofs::Sizes::back, crate::proofs::Sizes::back_held))]
+    ghost use Rattle.seam.specs.Places.{run_of, vertex_at};
+
+    #[tactic(auto, using(crate::proofs::Sizes::back_held, crate::proofs::Vertices::apart))]
     pub(crate) fn between(from: Place, to: Place) -> Run
-        ensures x { result.x.steps ≡ to.x -ℤ from.x }
-        ensures y { result.y.steps ≡ to.y -ℤ from.y }
-        ensures z { result.z.steps ≡ to.z -ℤ from.z }
+        ensures { run_of result ≡ from_to (vertex_at from) (vertex_at to) }
     {
         Run {
             x: Distance::between(from.x, to.x),
@@ -140,7 +140,7 @@ impl Run {
     // The distance on an axis.
     #[tactic(auto, unfolding(crate::specs::Weight::triple))]
     pub(crate) fn on(self, axis: Axis) -> Distance
-        ensures { result.steps ≡ on_axis axis (triple self.x.steps self.y.steps self.z.steps) }
+        ensures { result.steps ≡ on_axis axis (run_of self) }
     {
         match axis {
             Axis::X => self.x,
@@ -152,7 +152,7 @@ impl Run {
     // The greatest of the three distances, or 1.
     #[tactic(auto, unfolding(crate::specs::Weight::triple, crate::specs::Weight::m_of))]
     pub(crate) fn span(self) -> Distance
-        ensures { result.steps ≡ pos (m_of (triple self.x.steps self.y.steps self.z.steps)) }
+        ensures { result.steps ≡ pos (m_of (run_of self)) }
     {
         let m = self.x.size().max(self.y.size()).max(self.z.size()).max(1);
         Distance { steps: m as i64 }
@@ -161,8 +161,7 @@ impl Run {
     // The first axis on which the distance is `m`.
     #[tactic(auto, unfolding(crate::specs::Weight::triple))]
     pub(crate) fn major(self, m: Distance) -> Axis
-        ensures { let run = triple self.x.steps self.y.steps self.z.steps in
-            result ≡ major_of (unsigned_abs m.steps) run }
+        ensures { result ≡ major_of (unsigned_abs m.steps) (run_of self) }
     {
         if self.x.size() == m.size() {
             Axis::X

@@ -1,7 +1,8 @@
 // The knife, raised or lowered. Its state is a type parameter, and it is moved: a call takes the knife and gives it back in
 // the next state, so none is used twice, and none is let go but by a call that says so.
 ghost use Rattle.std.specs.Prelude.{◌≡◌, ◌+◌, ◌*◌, ◌<◌, ◌≤◌, [], ◌∷◌, length, nat_le};
-ghost use Rattle.law.specs.Program.{spelled, steps, travel as travel_bytes, lower as lower_bytes, stroke as stroke_bytes, raise as raise_bytes, finish as finish_bytes};
+ghost use Rattle.pack.specs.Plain.{spelled};
+ghost use Rattle.law.specs.Program.{steps, travel as travel_bytes, lower as lower_bytes, stroke as stroke_bytes, raise as raise_bytes, finish as finish_bytes};
 ghost use Rattle.bench.specs.Knife.{advanced, begun, answered, written};
 
 use kinds::PointKind;

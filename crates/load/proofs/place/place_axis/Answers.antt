@@ -1,4 +1,4 @@
-use Rattle.std.proofs.Common.{◌<◌, ◌^◌, length, inl, sym, ap, ◌∙◌, arith, rules, w32, SFits, length-set}
+use Rattle.std.proofs.Common.{◌<◌, length, sym, ap, ◌∙◌, arith, rules, w32, SFits, length-set}
 use Rattle.std.specs.Iterator.Adapters.{enumerate_source, enumerate_count}
 use Rattle.std.proofs.lemmas.Bool.{and_parts}
 use Rattle.std.proofs.lemmas.Int.{to_z-of_z}
@@ -16,26 +16,11 @@ loop-i-init g c =
     let long = length-values g.P.Predictor.means 0 start c.args.axis.body in
     rw (count, source) (record { placed = search rules; coded = c.requires.coded; room = omega (arith, long, c.requires.room) })
 
-pub loop-i-init-derived : goal.loop-i-init-derived
-loop-i-init-derived g c =
-    let from = c.into_iter-i-iterator.ensures.into_iter_gives in
-    let count = ap enumerate_count from ∙ c.enumerate-i-items.ensures.count in
-    let source = ap enumerate_source from ∙ c.enumerate-i-items.ensures.source ∙ c.codes.ensures in
-    let long = length-values g.P.Predictor.means 0 start c.args.axis.body in
-    let short : length c.args.points.now < 2 ^ 64 = search rules in
-    ((tt, tt, inl (rw (count, source) (omega (arith, long, short, c.requires.room)))), tt)
-
 pub step_of-requires : goal.step_of-requires
 step_of-requires g c =
     let s = c.args.axis.range in
     let fits : SFits w32 c.in-Some.code = search rules in
     rw (to_z-of_z w32 c.in-Some.code fits) (and_parts _ _ (sym (codes_next s _ _ _ c.in-Some.ensures.steps.0) ∙ c.loop-i.invariant.coded)).0
-
-pub offset_bounds-points-i-in-loop-i : goal.offset_bounds-points-i-in-loop-i
-offset_bounds-points-i-in-loop-i g c =
-    let one = ap length c.in-Some.ensures.steps.0 in
-    let due : c.in-Some.i < length c.loop-i.points = omega (arith, one, c.in-Some.ensures.steps.1, c.loop-i.invariant.room) in
-    search rules
 
 pub loop-i-preserved : goal.loop-i-preserved
 loop-i-preserved g c =

@@ -1,7 +1,7 @@
 use Rattle.std.proofs.Common.{◌≡◌, ◌∷◌, map}
 use Rattle.std.specs.List.{range_with_len}
 use Rattle.panel.specs.Bytes.{overwritten}
-use Rattle.law.specs.Program.{spelled}
+use Rattle.pack.specs.Plain.{spelled}
 use Rattle.bench.proofs.bench.knife.Knife.write_move.Given as goal
 
 -- the steps of the axes so far stand behind the letter
