@@ -3,7 +3,7 @@ use Rattle.std.proofs.Common.{◌≡◌, ℕ, Bool, true, false, cond, List, [],
 use Rattle.std.proofs.Math.Seq.{take-append_seam, drop-append_seam}
 use Rattle.std.specs.List.{flat_map, AllByRecursion}
 use Rattle.std.proofs.lemmas.List.{append_assoc}
-use Rattle.predict.specs.Wrap.{Word}
+use Rattle.words.specs.Numbers.{Word}
 use Rattle.pack.specs.Plain.{length_spelled, spelled, words_of, words-spelled}
 use Rattle.law.specs.Program.{Chain, stroke, finish, chain_bytes, program_bytes}
 use Rattle.law.specs.Law.{Steps, Whole, ReadsOnce}

@@ -18,7 +18,7 @@ use Rattle.law.specs.declared.Stage.{Stage}
 use Rattle.law.specs.declared.Stage.TheVariants.{Empty, Loaded, Split, Closed}
 use Rattle.law.specs.declared.Event.{Event}
 use Rattle.law.specs.declared.Event.TheVariants as event
-use Rattle.panel.specs.Bytes.{overwritten}
+use Rattle.words.specs.Bytes.{overwritten}
 use Rattle.law.specs.Program.{chain_bytes, through, finish}
 
 -- a call with its own arguments: a load with a predictor, a packing and a file's bytes; a split with a tolerance or none

@@ -15,7 +15,7 @@ use Rattle.std.proofs.lemmas.Int.{ints, int_wrap_fits, SFits-int_wrap}
 use Rattle.std.proofs.lemmas.Int.Digits.{number_digits_of, number_lt, all_below_base_digits_of, length-digits_of-le}
 use Rattle.refusal.specs.declared.Why.{Why}
 use Rattle.refusal.specs.declared.Why.TheVariants.{BodyLength, SpareBits}
-use Rattle.predict.specs.Wrap.{Word, ◌⊞◌}
+use Rattle.words.specs.Numbers.{Word, ◌⊞◌}
 use Rattle.pack.specs.Packing.{PackingMeaning}
 use Rattle.pack.specs.Plain.{le_word, word_back}
 use Rattle.pack.specs.Digits.{digits, length_digits, digits_number, number_digits}

@@ -4,7 +4,7 @@ use Rattle.std.specs.List.{AllByRecursion}
 use Rattle.kinds.specs.Count.{IsVertexCount}
 use Rattle.refusal.specs.declared.Why.{Why}
 use Rattle.refusal.specs.declared.Why.TheVariants.{BodyLength, SpareBits}
-use Rattle.predict.specs.Wrap.{Word}
+use Rattle.words.specs.Numbers.{Word}
 
 -- the reading, if a test holds, and else a refusal
 abbrev pub given : Bool → Why → Result (List ℤ) Why → Result (List ℤ) Why

@@ -7,7 +7,7 @@ use Rattle.kinds.specs.Kind.{KindMeaning}
 use Rattle.predict.specs.Predictor.{PredictorMeaning}
 use Rattle.pack.specs.Packing.{PackingMeaning}
 use Rattle.range.specs.Scale.{Scale}
-use Rattle.panel.specs.Bytes.{overwritten}
+use Rattle.words.specs.Bytes.{overwritten}
 use Rattle.predict.specs.Residues.{residues}
 use Rattle.panel.proofs.Overwriting.{over-more, length_over}
 use Rattle.panel.specs.Panel.{Axis, Panel, axis_on, inside_on, inside_from, axes_from, panel_on}

@@ -8,7 +8,7 @@ use Rattle.std.proofs.lemmas.List.{length-take-le, length-map}
 use Rattle.std.proofs.lemmas.List.FromFn.{length-enumerate_from}
 use Rattle.std.proofs.lemmas.Bool.{and_parts, and_from}
 use Rattle.kinds.specs.Kind.{KindMeaning}
-use Rattle.predict.specs.Wrap.{Word}
+use Rattle.words.specs.Numbers.{Word}
 use Rattle.range.specs.Scale.{Scale, IsRange, is_code, quanta}
 use Rattle.range.proofs.Ranges.{stays, code-within, code-nat, quanta-small}
 use Rattle.std.proofs.lemmas.Float.{T_from_true as passes}

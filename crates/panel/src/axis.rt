@@ -1,7 +1,7 @@
 // The pieces of an axis: its range, and the body of what is stored of the points' codes.
 ghost use Rattle.std.specs.Prelude.{◌≡◌, ◌+◌, ◌≤◌, length};
 ghost use Rattle.kinds.specs.Count.{IsVertexCount};
-ghost use Rattle.panel.specs.Bytes.{overwritten};
+ghost use Rattle.words.specs.Bytes.{overwritten};
 ghost use Rattle.panel.specs.Written.{stored_axis};
 
 use crate::pieces::{LENGTH_SIZE, RANGE_SIZE, length_piece, put, range_piece};

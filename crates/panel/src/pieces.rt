@@ -1,6 +1,6 @@
 // The pieces of a panel file: each begins with its letter, and numbers have their low byte first.
 ghost use Rattle.std.specs.Prelude.{◌≡◌, ◌+◌, ◌≤◌, length};
-ghost use Rattle.panel.specs.Bytes.{overwritten};
+ghost use Rattle.words.specs.Bytes.{overwritten};
 ghost use Rattle.panel.specs.Written.{head_piece, range_piece, length_piece};
 
 use range::range::Range;

@@ -1,6 +1,6 @@
 // Predictors whose residue is the exclusive or of the value and what was foreseen.
 ghost use Rattle.std.specs.Prelude.{refl};
-ghost use Rattle.predict.specs.Wrap.{◌⊻◌};
+ghost use Rattle.words.specs.Numbers.{◌⊻◌};
 ghost use Rattle.predict.specs.Models.{xor1, xor2};
 
 use crate::{Before, Foresight, Way};

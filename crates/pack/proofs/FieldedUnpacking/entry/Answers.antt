@@ -1,7 +1,7 @@
 use Rattle.std.proofs.Common.{◌≡◌, ℕ, ◌+◌, ◌-◌, ◌*◌, ◌/◌, ◌%◌, ◌^◌, List, length, get_or, take, drop, ℤ, pos, ap, ap₂, ◌∙◌, w32, SFits, to_z, of_z, rules}
 use Rattle.std.specs.Int.Digits.{number_from_digits}
 use Rattle.std.proofs.lemmas.Int.{to_z-of_z}
-use Rattle.predict.specs.Wrap.{◌⊞◌}
+use Rattle.words.specs.Numbers.{◌⊞◌}
 use Rattle.pack.proofs.Reading.{entry-is, add-field}
 use Rattle.pack.proofs.FieldedUnpacking.entry.Goals as goal
 

@@ -1,6 +1,6 @@
 use Rattle.std.proofs.Common.{◌≡◌, ℕ, ◌+◌, ◌<◌, ◌≤◌, List, ◌++◌, length, drop, set, sym, ap, ◌∙◌, arith}
 use Rattle.std.proofs.lemmas.Bool.{le-ltb}
-use Rattle.panel.specs.Bytes.{overwritten}
+use Rattle.words.specs.Bytes.{overwritten}
 use Rattle.panel.specs.Panel.{axes_from, axis_on, panel_on}
 use Rattle.panel.specs.Written.{head_piece, rest_bytes, axis_bytes, stored_axis, written}
 use Rattle.panel.proofs.Overwriting.{over-more, over-one, over-front}

@@ -1,5 +1,5 @@
 use Rattle.std.proofs.Common.{◌≡◌, ◌+◌, ◌*◌, ◌≤◌, true, length, drop}
-use Rattle.panel.specs.Bytes.{overwritten}
+use Rattle.words.specs.Bytes.{overwritten}
 use Rattle.panel.specs.Panel.{inside_from, axes_from, panel_on}
 use Rattle.panel.specs.Written.{rest_bytes, written}
 use Rattle.panel.proofs.design.Design.store.Given as goal

@@ -1,6 +1,6 @@
 use Rattle.std.proofs.Common.{◌≡◌, ◌∷◌, map}
 use Rattle.std.specs.List.{range_with_len}
-use Rattle.panel.specs.Bytes.{overwritten}
+use Rattle.words.specs.Bytes.{overwritten}
 use Rattle.pack.specs.Plain.{spelled}
 use Rattle.bench.proofs.bench.knife.Knife.write_move.Given as goal
 
