@@ -3,8 +3,7 @@ use Rattle.std.proofs.Common.{false, [], ◌∷◌, replicate, pos, refl, lit≤
 use lib.Ieee.{fin, of_bits, to_bits, fits}
 use Rattle.std.specs.Int.{int_wrap}
 use Rattle.predict.specs.Residues.{residues_from, values_from}
-use Rattle.pack.specs.Plain as P
-use Rattle.pack.specs.Fielded as F
+use Rattle.pack.specs.Packing as P
 use Rattle.range.specs.Scale.{Scale, IsRange}
 use Rattle.range.specs.Units.{good_end, units_of, neg_zero, plain}
 use Rattle.range.specs.Scale.{code_in, place_in}
@@ -40,5 +39,5 @@ run = record {
   went = refl;
   ranges = sixteen ∷ sixteen ∷ sixteen ∷ [];
   first = record { three = refl; ranges = (sixteen-is, (sixteen-is, (sixteen-is, tt))); packing = P.plain; same = refl; room = 2; before = replicate 60 0; size = 55; after = _; stores = refl; file = refl };
-  second = record { three = refl; ranges = (sixteen-is, (sixteen-is, (sixteen-is, tt))); packing = F.fielded; same = refl; room = 5; before = replicate 60 0; size = 56; after = _; stores = refl; file = refl };
+  second = record { three = refl; ranges = (sixteen-is, (sixteen-is, (sixteen-is, tt))); packing = P.fielded; same = refl; room = 5; before = replicate 60 0; size = 56; after = _; stores = refl; file = refl };
 }

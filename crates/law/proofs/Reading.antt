@@ -4,7 +4,8 @@ use Rattle.std.proofs.Math.Seq.{take-append_seam, drop-append_seam}
 use Rattle.std.specs.List.{flat_map, AllByRecursion}
 use Rattle.std.proofs.lemmas.List.{append_assoc}
 use Rattle.words.specs.Numbers.{Word}
-use Rattle.pack.specs.Plain.{length_spelled, spelled, words_of, words-spelled}
+use Rattle.words.specs.Order.{low_first, numbers_of, spelled}
+use Rattle.words.proofs.Spelling.{length_spelled, numbers_back}
 use Rattle.law.specs.Program.{Chain, stroke, finish, chain_bytes, program_bytes}
 use Rattle.law.specs.Law.{Steps, Whole, ReadsOnce}
 
@@ -14,14 +15,14 @@ apart xs ys us vs h e = (
   sym (drop-append_seam xs us) ∙ ap₂ drop h e ∙ drop-append_seam ys vs,
 )
 
-spelled-once : (zs ws : List ℤ) → length zs ≡ length ws → AllByRecursion Word zs → AllByRecursion Word ws → spelled zs ≡ spelled ws → zs ≡ ws
-spelled-once zs ws h a b e = sym (words-spelled zs a) ∙ ap₂ words_of h e ∙ words-spelled ws b
+spelled-once : (zs ws : List ℤ) → length zs ≡ length ws → AllByRecursion Word zs → AllByRecursion Word ws → spelled low_first zs ≡ spelled low_first ws → zs ≡ ws
+spelled-once zs ws h a b e = sym (numbers_back low_first zs a) ∙ ap₂ (numbers_of low_first) h e ∙ numbers_back low_first ws b
 
 module _ (axes : ℕ) where
-  steps-once : (zs ws : List ℤ) (us vs : List ℕ) → Steps axes zs → Steps axes ws → spelled zs ++ us ≡ spelled ws ++ vs → (zs ≡ ws) × (us ≡ vs)
+  steps-once : (zs ws : List ℤ) (us vs : List ℕ) → Steps axes zs → Steps axes ws → spelled low_first zs ++ us ≡ spelled low_first ws ++ vs → (zs ≡ ws) × (us ≡ vs)
   steps-once zs ws us vs a b e =
       let same : length zs ≡ length ws = a.0 ∙ sym b.0 in
-      let r = apart (spelled zs) (spelled ws) us vs (omega (arith, length_spelled zs, length_spelled ws)) e in
+      let r = apart (spelled low_first zs) (spelled low_first ws) us vs (omega (arith, length_spelled low_first zs, length_spelled low_first ws)) e in
       (spelled-once zs ws same a.1 b.1 r.0, r.1)
 
   abbrev stroke_bytes : List (List ℤ) → List ℕ → List ℕ
@@ -32,26 +33,26 @@ module _ (axes : ℕ) where
   strokes-once [] (y ∷ bs) us vs a b e = absurd (omega (arith, ap (λ (l : List ℕ). get_or l 0 0) e))
   strokes-once (x ∷ cs) [] us vs a b e = absurd (omega (arith, ap (λ (l : List ℕ). get_or l 0 0) e))
   strokes-once (x ∷ cs) (y ∷ bs) us vs a b e =
-      let f : spelled x ++ stroke_bytes cs us ≡ spelled y ++ stroke_bytes bs vs =
-      sym (append_assoc (spelled x) (flat_map stroke cs) (0x55 ∷ us)) ∙ tail ∙ append_assoc (spelled y) (flat_map stroke bs) (0x55 ∷ vs) in
+      let f : spelled low_first x ++ stroke_bytes cs us ≡ spelled low_first y ++ stroke_bytes bs vs =
+      sym (append_assoc (spelled low_first x) (flat_map stroke cs) (0x55 ∷ us)) ∙ tail ∙ append_assoc (spelled low_first y) (flat_map stroke bs) (0x55 ∷ vs) in
       let r = steps-once x y (stroke_bytes cs us) (stroke_bytes bs vs) a.0 b.0 f in
       let s = strokes-once cs bs us vs a.1 b.1 r.1 in
       (ap₂ (λ (y : List ℤ) (ys : List (List ℤ)). y ∷ ys) r.0 s.0, s.1)
     where
-      tail : (spelled x ++ flat_map stroke cs) ++ (0x55 ∷ us) ≡ (spelled y ++ flat_map stroke bs) ++ (0x55 ∷ vs)
+      tail : (spelled low_first x ++ flat_map stroke cs) ++ (0x55 ∷ us) ≡ (spelled low_first y ++ flat_map stroke bs) ++ (0x55 ∷ vs)
       tail = cc
 
   -- a chain, and what follows
-  chain-spread : (c : Chain) (us : List ℕ) → chain_bytes c ++ us ≡ 0x54 ∷ (spelled c.from ++ (0x44 ∷ stroke_bytes c.strokes us))
+  chain-spread : (c : Chain) (us : List ℕ) → chain_bytes c ++ us ≡ 0x54 ∷ (spelled low_first c.from ++ (0x44 ∷ stroke_bytes c.strokes us))
   unfolding chain_bytes
   chain-spread c us =
-      ap (λ (l : List ℕ). 0x54 ∷ l) (append_assoc (spelled c.from) _ us
-      ∙ ap (λ (l : List ℕ). spelled c.from ++ (0x44 ∷ l)) (append_assoc (flat_map stroke c.strokes) (0x55 ∷ []) us))
+      ap (λ (l : List ℕ). 0x54 ∷ l) (append_assoc (spelled low_first c.from) _ us
+      ∙ ap (λ (l : List ℕ). spelled low_first c.from ++ (0x44 ∷ l)) (append_assoc (flat_map stroke c.strokes) (0x55 ∷ []) us))
 
   chain-once : (c d : Chain) (us vs : List ℕ) → Whole axes c → Whole axes d → chain_bytes c ++ us ≡ chain_bytes d ++ vs → (c ≡ d) × (us ≡ vs)
   chain-once c d us vs a b e =
       let f = sym (chain-spread c us) ∙ e ∙ chain-spread d vs in
-      let g : spelled c.from ++ (0x44 ∷ stroke_bytes c.strokes us) ≡ spelled d.from ++ (0x44 ∷ stroke_bytes d.strokes vs) = cc in
+      let g : spelled low_first c.from ++ (0x44 ∷ stroke_bytes c.strokes us) ≡ spelled low_first d.from ++ (0x44 ∷ stroke_bytes d.strokes vs) = cc in
       let r = steps-once c.from d.from _ _ a.travel b.travel g in
       let h : stroke_bytes c.strokes us ≡ stroke_bytes d.strokes vs = let i = r.1 in cc in
       let s = strokes-once c.strokes d.strokes us vs a.each b.each h in

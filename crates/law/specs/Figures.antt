@@ -6,9 +6,8 @@ use Rattle.range.specs.Scale.{Scale}
 use Rattle.range.specs.Figures as range
 use Rattle.predict.specs.Models.{lag1}
 use Rattle.predict.specs.Figures as predict
-use Rattle.pack.specs.Plain.{plain}
-use Rattle.pack.specs.Fielded.{fielded}
-use Rattle.pack.specs.Figures as pack
+use Rattle.pack.specs.Packing.{plain, fielded}
+use Rattle.pack.specs.Laws as pack
 use Rattle.seam.specs.Figures as seam
 use Rattle.law.specs.Calls.{Call, load, split, cut, close, State, new}
 use Rattle.law.specs.Runs.{run, accepted}

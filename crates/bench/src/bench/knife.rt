@@ -1,7 +1,7 @@
 // The knife, raised or lowered. Its state is a type parameter, and it is moved: a call takes the knife and gives it back in
 // the next state, so none is used twice, and none is let go but by a call that says so.
 ghost use Rattle.std.specs.Prelude.{◌≡◌, ◌+◌, ◌*◌, ◌<◌, ◌≤◌, [], ◌∷◌, length, nat_le};
-ghost use Rattle.pack.specs.Plain.{spelled};
+ghost use Rattle.words.specs.Order.{low_first, spelled};
 ghost use Rattle.law.specs.Program.{steps, travel as travel_bytes, lower as lower_bytes, stroke as stroke_bytes, raise as raise_bytes, finish as finish_bytes};
 ghost use Rattle.bench.specs.Knife.{advanced, begun, answered, written};
 
@@ -146,9 +146,9 @@ impl<S> Knife<S> {
         letter: u8,
         to: &K,
     ) -> Result<Knife<T>, (Why, Knife<S>)>
-        ensures answer { let bytes = letter ∷ spelled (steps K.kind to.now) in
+        ensures answer { let bytes = letter ∷ spelled low_first (steps K.kind to.now) in
             result ≡ answered program.old self bytes }
-        ensures program { let bytes = letter ∷ spelled (steps K.kind to.now) in
+        ensures program { let bytes = letter ∷ spelled low_first (steps K.kind to.now) in
             program.new ≡ written program.old self bytes }
     {
         let at = self.at;
