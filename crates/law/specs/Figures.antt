@@ -4,8 +4,8 @@ use Rattle.kinds.specs.Models.{flat}
 use Rattle.kinds.specs.declared.Flat.{Flat}
 use Rattle.range.specs.Scale.{Scale}
 use Rattle.range.specs.Figures as range
-use Rattle.predict.specs.Models.{lag1}
-use Rattle.predict.specs.Figures as predict
+use Rattle.predict.specs.Predictor.{lag1}
+use Rattle.predict.specs.Laws as predict
 use Rattle.pack.specs.Packing.{plain, fielded}
 use Rattle.pack.specs.Laws as pack
 use Rattle.seam.specs.Figures as seam

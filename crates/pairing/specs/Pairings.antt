@@ -2,8 +2,7 @@
 use Rattle.std.specs.Prelude.{◌≡◌, ℕ, cond, [], ◌∷◌, Some, None, Option, Ok, Err, Result, nat_le, slice_index_or, true, false}
 use Rattle.refusal.specs.declared.Why.{Why}
 use Rattle.refusal.specs.declared.Why.TheVariants.{PredictorByte, PackingByte}
-use Rattle.predict.specs.Predictor.{PredictorMeaning}
-use Rattle.predict.specs.Models.{lag1, lag2, stride1, stride2, strip, ramp, xor1, xor2, null}
+use Rattle.predict.specs.Predictor.{PredictorMeaning, lag1, lag2, stride1, stride2, strip, ramp, xor1, xor2, null}
 use Rattle.pack.specs.Packing.{PackingMeaning, plain, fielded}
 use Rattle.pairing.specs.declared.names.PredictorName.{PredictorName}
 use Rattle.pairing.specs.declared.names.PredictorName.TheVariants.{Lag1, Lag2, Stride1, Stride2, StripIndex, Ramp, Xor1, Xor2, Null}

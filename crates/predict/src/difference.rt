@@ -1,7 +1,7 @@
 // Predictors whose residue is the value less what was foreseen.
 ghost use Rattle.std.specs.Prelude.{◌≡◌, refl};
 ghost use Rattle.words.specs.Numbers.{◌⊞◌, ◌⊟◌};
-ghost use Rattle.predict.specs.Models.{onward, strip_step, lag1, lag2, stride1, stride2, strip, ramp, null};
+ghost use Rattle.predict.specs.Predictor.{onward, strip_step, lag1, lag2, stride1, stride2, strip, ramp, null};
 
 use crate::{Before, Foresight, Way};
 

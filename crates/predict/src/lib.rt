@@ -4,8 +4,7 @@
 ghost use Rattle.std.specs.Prelude.{◌≡◌, ℕ, ℤ};
 ghost use Rattle.predict.specs.Predictor.{PredictorMeaning};
 ghost use Rattle.predict.specs.Residues.{start, after, stored as Stored, restored as Restored};
-ghost use Rattle.predict.specs.Laws.{ResiduesUndone};
-ghost use Rattle.predict.specs.Figures.{Figures};
+ghost use Rattle.predict.specs.Laws.{ResiduesUndone, Figures};
 
 mod difference;
 mod mixing;

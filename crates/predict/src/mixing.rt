@@ -1,7 +1,7 @@
 // Predictors whose residue is the exclusive or of the value and what was foreseen.
 ghost use Rattle.std.specs.Prelude.{refl};
 ghost use Rattle.words.specs.Numbers.{◌⊻◌};
-ghost use Rattle.predict.specs.Models.{xor1, xor2};
+ghost use Rattle.predict.specs.Predictor.{xor1, xor2};
 
 use crate::{Before, Foresight, Way};
 
