@@ -1,10 +1,9 @@
 -- The chain of an accepted cut.
 use Rattle.std.proofs.Common.{◌≡◌, ℕ, suc, ◌+◌, ◌-◌, ◌*◌, ◌<◌, ◌≤◌, true, List, [], ◌∷◌, map, length, get_or, ℤ, pos, ◌-ℤ◌, ◌*ℤ◌, nat_abs, sym, refl, ap, ◌∙◌, subst, arith}
 use Rattle.kinds.specs.Kind.{KindMeaning}
-use Rattle.kinds.specs.Vertex.{Vertex, at, told}
+use Rattle.kinds.specs.Vertex.{Vertex, at, told, all_close_by}
 use Rattle.range.specs.Scale.{Scale, IsRange, quanta, width}
 use Rattle.seam.specs.Ones.{ones}
-use Rattle.seam.specs.Seam.{all_close_by}
 use Rattle.panel.specs.Panel.{Panel, panel_of}
 use Rattle.panel.specs.Placed.{place_at, vertex, placed}
 use Rattle.std.specs.List.{AllByRecursion}

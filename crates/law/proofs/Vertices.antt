@@ -4,7 +4,7 @@ use mathlib.Core.Path.{fun_ext}
 use Rattle.std.proofs.lemmas.List.{get_or_past, get_or-map}
 use Rattle.std.proofs.lemmas.List.FromFn.{get_or-map-range_with_len, length-map-range_with_len}
 use Rattle.std.proofs.lemmas.Bool.{cases_lt}
-use Rattle.kinds.specs.Kind.{KindMeaning, chosen}
+use Rattle.kinds.specs.Kind.{KindMeaning, triple}
 use Rattle.kinds.specs.Vertex.{at, told}
 use Rattle.panel.specs.Panel.{Axis, Panel}
 use Rattle.panel.specs.Placed.{place_at, vertex, placed}
@@ -51,7 +51,7 @@ module _ {P : Type 0} (k : KindMeaning P) where
           (λ (h : k.axes ≤ j). k.beyond _ j h ∙ sym (place-past x.axes j i (omega arith)))
           (cases_lt j k.axes)
         where
-          three : (j : ℕ) → j < 3 → chosen (place_at x.axes 0 i) (place_at x.axes 1 i) (place_at x.axes 2 i) j ≡ place_at x.axes j i
+          three : (j : ℕ) → j < 3 → triple (place_at x.axes 0 i) (place_at x.axes 1 i) (place_at x.axes 2 i) j ≡ place_at x.axes j i
           three zero h = refl
           three (suc zero) h = refl
           three (suc (suc zero)) h = refl

@@ -1,35 +1,36 @@
 -- What a whole split leaves, and its answer.
-use Rattle.std.proofs.Common.{◌≡◌, ℕ, ◌+◌, ◌-◌, ◌<◌, ◌≤◌, List, length, None, ◌∙◌, inl, inr, arith}
-use Rattle.seam.specs.Seam.{pick, ends, tree_of}
-use Rattle.seam.specs.Ones.{ones}
-use Rattle.seam.specs.Split.{tree, marked, kept, waits}
-use Rattle.seam.proofs.Heavy.{picked-near}
-use Rattle.seam.proofs.Chain.{tree_local, tree-chain}
-use Rattle.seam.proofs.Marks.{length-ends, ends-zero, ends-first, ends_last, ends-ones, tree-adds}
+use Rattle.std.proofs.Common.{◌≡◌, ℕ, ◌+◌, ◌-◌, ◌<◌, ◌≤◌, List, length, None, ◌∙◌, arith}
 use Rattle.kinds.specs.Kind.{KindMeaning}
 use Rattle.kinds.specs.Vertex.{Vertex, told}
+use Rattle.seam.specs.Seam.{pick, ends, tree_of}
+use Rattle.seam.specs.Ones.{ones}
+use Rattle.seam.specs.Split.{chord, tree, marked, kept, waits}
 use Rattle.seam.specs.Laws.{KeptNear, Sound}
 use Rattle.seam.specs.Weight.{weight, limit}
-use Rattle.seam.proofs.Vertices.{pick-inner}
 use Rattle.seam.proofs.Grow.{waits-few}
+use Rattle.seam.proofs.Heavy.{flat-near}
+use Rattle.seam.proofs.Marks.{ends-bare, ends-ones, Splits, tree-splits}
+use Rattle.seam.proofs.Vertices.{pick-inner}
 
-flat_near : (vs : List Vertex) (t a b : ℕ) → pick vs t a b ≡ None → (k : ℕ) → a < k → k < b → weight vs a b k ≤ limit vs t a b
+flat_near : (vs : List Vertex) (t a b : ℕ) → pick vs t (chord a b) ≡ None → (k : ℕ) → a < k → k < b → weight vs a b k ≤ limit vs t a b
 unfolding pick
-flat_near vs t a b e = picked-near (weight vs a b) (limit vs t a b) a b e
+flat_near vs t a b e = flat-near (weight vs a b) (limit vs t a b) a b e
 
-module _ (vs : List Vertex) (t n : ℕ) (before ms : List ℕ) (some : 2 ≤ n) (fits : n ≤ length before) (e : ms ≡ marked (tree (pick vs t) 0 (n - 1)) (ends n before)) where
+module _ (vs : List Vertex) (t n : ℕ) (before ms : List ℕ) (some : 2 ≤ n) (fits : n ≤ length before) (e : ms ≡ marked (tree (pick vs t) (chord 0 (n - 1))) (ends n before)) where
+  here : Splits (pick vs t) (chord 0 (n - 1)) (ends n before) (tree (pick vs t) (chord 0 (n - 1)))
+  here = tree-splits (pick vs t) (pick-inner vs t) (chord 0 (n - 1)) (omega arith) (ends n before) (ends-bare n before some fits)
+
   pub kept_near : KeptNear vs t n ms
   kept_near =
-      let here = tree_local (pick vs t) (pick-inner vs t) 0 (n - 1) (omega arith) (ends n before) in
+      let bare = ends-bare n before some fits in
       rw e (record {
-        first = here 0 (inl (omega arith)) ∙ ends-first n before some fits;
-        last = here (n - 1) (inr (omega arith)) ∙ ends_last n before some fits;
-        chords = λ p q h l ep eq none. flat_near vs t p q (tree-chain (pick vs t) (pick-inner vs t) 0 (n - 1) (omega arith) (ends n before) (omega (arith, length-ends n before some fits)) (ends-zero n before some fits) p q (omega arith) h (omega arith) (inr ep) (inr eq) none);
+        first = here.outside 0 (omega arith) ∙ bare.begins;
+        last = here.outside (n - 1) (omega arith) ∙ bare.ends;
+        chords = λ p q h l ep eq none. flat_near vs t p q (here.chain p q (omega arith) h (omega arith) ep eq none);
       })
 
-  pub kept-ones : (r : ℕ) → r ≡ 2 + kept (tree (pick vs t) 0 (n - 1)) → r ≡ ones n ms
-  kept-ones r i =
-      rw e (omega (arith, tree-adds (pick vs t) (pick-inner vs t) 0 (n - 1) (omega arith) n (ends n before) (omega arith) (omega (arith, length-ends n before some fits)) (ends-zero n before some fits), ends-ones n before some fits))
+  pub kept-ones : (r : ℕ) → r ≡ 2 + kept (tree (pick vs t) (chord 0 (n - 1))) → r ≡ ones n ms
+  kept-ones r i = rw e (omega (arith, here.adds n (omega arith), ends-ones n before some fits))
 
 -- a whole split
 pub sound : {P : Type 0} (k : KindMeaning P) (t n : ℕ) (ps : List P) (before ms : List ℕ) (r : ℕ × ℕ) → 2 ≤ n → n ≤ 4096 → n ≤ length before
@@ -37,6 +38,6 @@ pub sound : {P : Type 0} (k : KindMeaning P) (t n : ℕ) (ps : List P) (before m
 unfolding tree_of
 sound k t n ps before ms r some few fits marks count waiting = record {
   near = kept_near (told k ps) t n before ms some fits marks;
-  counted = kept-ones (told k ps) t n before ms some fits marks r.0 count;
-  few = rw waiting (waits-few (pick (told k ps) t) (pick-inner (told k ps) t) 0 (n - 1) (omega arith) (omega arith));
+  count = kept-ones (told k ps) t n before ms some fits marks r.0 count;
+  few = rw waiting (waits-few (pick (told k ps) t) (pick-inner (told k ps) t) (chord 0 (n - 1)) (omega arith) (omega arith));
 }

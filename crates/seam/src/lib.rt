@@ -1,12 +1,11 @@
 // Which vertices of a line a cut must keep, so that each of the others lies near a chord between two kept ones.
 #![tactic(auto)]
 
-ghost use Rattle.std.specs.Prelude.{◌≡◌, ℕ, List, take, Result};
-ghost use Rattle.refusal.specs.declared.Why.{Why};
+ghost use Rattle.std.specs.Prelude.{◌≡◌, take, IfOk};
 ghost use Rattle.kinds.specs.Vertex.{told};
 ghost use Rattle.seam.specs.Seam.{split_of};
 ghost use Rattle.seam.specs.Figures.{Figures};
-ghost use Rattle.seam.specs.Laws.{SoundAnswer, HeaviestDivides, ToleranceMovesNoVertex, OwnAxesWeigh, NearLiesAlong, WeightsStaySmall};
+ghost use Rattle.seam.specs.Laws.{Sound, HeaviestDivides, ToleranceMovesNoVertex, OwnAxesWeigh, NearLiesAlong, WeightsStaySmall};
 
 mod chord;
 mod gauge;
@@ -28,10 +27,10 @@ pub fn split<K: PointKind>(
     tolerance: u32,
     marks: &mut [u8],
 ) -> Result<(usize, usize), Why>
-    ensures answer { let after = split_of K.kind tolerance count points.now marks.old in
-        ◌≡◌ {A = Result (ℕ × ℕ) Why × List ℕ} (result, marks.new) after }
+    ensures answer { result ≡ (split_of K.kind tolerance count points.now marks.old).0 }
+    ensures marks { marks.new ≡ (split_of K.kind tolerance count points.now marks.old).1 }
     ensures sound { let line = told K.kind (take count points.now) in
-        SoundAnswer line tolerance count marks.new result }
+        IfOk result (λ counts. Sound line tolerance count marks.new counts.0 counts.1) }
 {
     let tolerance = Tolerance::try_from(tolerance)?;
     let count = VertexCount::new(count).ok_or(Why::VertexCount)?.get();

@@ -3,26 +3,21 @@ ghost use Rattle.std.specs.Prelude.{◌≡◌, ◌+◌, ◌-◌, ◌<◌, ◌≤
 ghost use Rattle.std.specs.List.{All, list_all};
 ghost use Rattle.refusal.specs.declared.Why.TheVariants.{Tolerance as tooLoose, Unfit};
 ghost use Rattle.kinds.specs.Count.{IsVertexCount};
-ghost use Rattle.kinds.specs.Vertex.{at as vertex, told};
-ghost use Rattle.seam.specs.Places.{vertex_at, run_of};
-ghost use Rattle.seam.specs.Weight.{IsOnBench, weights_from};
-ghost use Rattle.seam.specs.Heaviest.{heaviest as heaviest_of, heavier as heavier_of};
+ghost use Rattle.kinds.specs.Vertex.{at as vertex, told, farthest_steps, close_by, all_close_by};
+ghost use Rattle.seam.specs.Weight.{vertex_at, run_of, weights_from};
 ghost use Rattle.seam.specs.Split.{marked, kept as kept_of, waits as waits_of};
-ghost use Rattle.seam.specs.Seam.{pick as pick_of, inner, cleared, ends, tree_of, close_by, all_close_by};
+ghost use Rattle.seam.specs.Seam.{heaviest as heaviest_of, heavier as heavier_of, pick as pick_of, inner, cleared, ends, tree_of};
 
 use crate::KEPT;
 use crate::chord::Chord;
 use crate::gauge::Gauge;
 use crate::place::{Axis, Place, Way};
 use arrayvec::ArrayVec;
-use kinds::PointKind;
+use kinds::{FARTHEST_STEPS, PointKind};
 use refusal::Why;
 
 // At most so many chords wait where a line has no more than 4,096 vertices.
 const MOST_WAITING: usize = 11;
-
-// The farthest that a coordinate may lie from zero, in steps.
-const FARTHEST: u32 = 1_048_576;
 
 // How far off its chord a vertex may lie and not be kept, in steps.
 #[derive(Clone, Copy)]
@@ -55,12 +50,12 @@ impl TryFrom<u32> for Tolerance {
 pub(crate) struct Line<'a, K: PointKind> {
     points: &'a [K],
     ghost counted: { IsVertexCount (length points.now) },
-    ghost within: { All (λ p. IsOnBench (K.kind.coordinate p)) points.now },
+    ghost within: { All (λ p. close_by (K.kind.coordinate p) ≡ true) points.now },
 }
 
 impl<'a, K: PointKind> Line<'a, K> {
     // The line of these points, if each lies within the bench.
-    #[tactic(auto, using(crate::proofs::Refused::all_told))]
+    #[tactic(auto, using(crate::proofs::Vertices::all_told))]
     pub(crate) fn new(points: &'a [K]) -> Result<Line<'a, K>, Why>
         requires { IsVertexCount (length points.now) }
         ensures { let near = all_close_by (told K.kind points.now) in
@@ -99,7 +94,7 @@ impl<'a, K: PointKind> Line<'a, K> {
         requires to { chord.to < length self.now.points.now }
         ensures { let vs = told K.kind self.now.points.now in
             let weights = weights_from (vertex_at gauge.now.from) (run_of gauge.now.run) vs in
-            result ≡ heaviest_of weights chord.from (inner chord.from chord.to) }
+            result ≡ heaviest_of weights chord.from (inner chord) }
     {
         let mut best = None;
         for i in chord.from + 1..chord.to {
@@ -118,8 +113,7 @@ impl<'a, K: PointKind> Line<'a, K> {
     fn pick(&self, tolerance: Tolerance, chord: Chord) -> Option<usize>
         requires from { chord.from < chord.to }
         requires to { chord.to < length self.now.points.now }
-        ensures { let vs = told K.kind self.now.points.now in
-            result ≡ pick_of vs tolerance.steps chord.from chord.to }
+        ensures { result ≡ pick_of (told K.kind self.now.points.now) tolerance.steps chord }
     {
         let gauge = Gauge::between(self.place(chord.from), self.place(chord.to));
         let heaviest = match (gauge.major, gauge.way) {
@@ -141,11 +135,15 @@ impl<'a, K: PointKind> Line<'a, K> {
     fn split_chords(&self, tolerance: Tolerance, marks: &mut [u8]) -> (usize, usize)
         requires { length self.now.points.now ≤ length marks.old }
         ensures marks { let points = self.now.points.now in
-            marks.new ≡ marked (tree_of K.kind tolerance.steps (length points) points) marks.old }
+            let tree = tree_of K.kind tolerance.steps (length points) points in
+            marks.new ≡ marked tree marks.old }
         ensures count { let points = self.now.points.now in
-            result.0 ≡ kept_of (tree_of K.kind tolerance.steps (length points) points) }
+            let tree = tree_of K.kind tolerance.steps (length points) points in
+            result.0 ≡ kept_of tree }
+        ensures few { result.0 < 4096 }
         ensures waits { let points = self.now.points.now in
-            result.1 ≡ waits_of (tree_of K.kind tolerance.steps (length points) points) }
+            let tree = tree_of K.kind tolerance.steps (length points) points in
+            result.1 ≡ waits_of tree }
     {
         let mut waiting = ArrayVec::<Chord, MOST_WAITING>::new();
         let mut most: usize = 0;
@@ -180,9 +178,11 @@ impl<'a, K: PointKind> Line<'a, K> {
             let tree = tree_of K.kind tolerance.steps (length points) points in
             marks.new ≡ marked tree (ends (length points) marks.old) }
         ensures count { let points = self.now.points.now in
-            result.0 ≡ 2 + kept_of (tree_of K.kind tolerance.steps (length points) points) }
+            let tree = tree_of K.kind tolerance.steps (length points) points in
+            result.0 ≡ 2 + kept_of tree }
         ensures waits { let points = self.now.points.now in
-            result.1 ≡ waits_of (tree_of K.kind tolerance.steps (length points) points) }
+            let tree = tree_of K.kind tolerance.steps (length points) points in
+            result.1 ≡ waits_of tree }
     {
         clear(marks, self.points.len());
         keep(marks, 0);
@@ -233,9 +233,9 @@ fn clear(marks: &mut [u8], n: usize)
 
 // Whether a coordinate lies within the bench.
 fn on_bench(z: i32) -> bool
-    ensures { result ≡ nat_le (unsigned_abs z) FARTHEST }
+    ensures { result ≡ nat_le (unsigned_abs z) farthest_steps }
 {
-    z.unsigned_abs() <= FARTHEST
+    z.unsigned_abs() <= FARTHEST_STEPS
 }
 
 // Whether a vertex does.

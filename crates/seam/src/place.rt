@@ -1,7 +1,7 @@
 // Places within the bench, axes, and how far one place lies from another.
-ghost use Rattle.std.specs.Prelude.{◌≡◌, ◌^◌, ◌≤◌, pos, ◌-ℤ◌, ◌*ℤ◌, unsigned_abs};
-ghost use Rattle.seam.specs.Axis.{on_axis, way_of, going};
-ghost use Rattle.seam.specs.Weight.{OnBench, IsOnBench, triple, from_to, m_of, major_of, clamped};
+ghost use Rattle.std.specs.Prelude.{◌≡◌, true, ◌^◌, ◌≤◌, pos, ◌-ℤ◌, ◌*ℤ◌, unsigned_abs};
+ghost use Rattle.kinds.specs.Kind.{triple};
+ghost use Rattle.kinds.specs.Vertex.{OnBench, close_by};
 
 use kinds::PointKind;
 
@@ -17,7 +17,7 @@ pub(crate) struct Place {
 impl Place {
     #[tactic(auto, using(crate::proofs::Vertices::three))]
     pub(crate) fn of<K: PointKind>(point: &K) -> Place
-        requires { IsOnBench (K.kind.coordinate point.now) }
+        requires { close_by (K.kind.coordinate point.now) ≡ true }
         ensures { triple result.x result.y result.z ≡ K.kind.coordinate point.now }
     {
         Place {
@@ -44,6 +44,8 @@ pub(crate) enum Way {
 }
 
 impl Way {
+    ghost use Rattle.seam.specs.Weight.{way_of, going};
+
     // The way of a distance.
     pub(crate) fn of(d: Distance) -> Way
         ensures { result ≡ way_of d.steps }
@@ -77,6 +79,8 @@ pub(crate) struct Distance {
 }
 
 impl Distance {
+    ghost use Rattle.seam.specs.Weight.{clamped};
+
     // From one coordinate within the bench to another.
     fn between(from: i32, to: i32) -> Distance
         requires from { OnBench from }
@@ -124,7 +128,7 @@ pub(crate) struct Run {
 }
 
 impl Run {
-    ghost use Rattle.seam.specs.Places.{run_of, vertex_at};
+    ghost use Rattle.seam.specs.Weight.{vertex_at, run_of, on_axis, from_to, m_of, major_of};
 
     #[tactic(auto, using(crate::proofs::Sizes::back_held, crate::proofs::Vertices::apart))]
     pub(crate) fn between(from: Place, to: Place) -> Run
@@ -138,7 +142,6 @@ impl Run {
     }
 
     // The distance on an axis.
-    #[tactic(auto, unfolding(crate::specs::Weight::triple))]
     pub(crate) fn on(self, axis: Axis) -> Distance
         ensures { result.steps ≡ on_axis axis (run_of self) }
     {
@@ -150,7 +153,7 @@ impl Run {
     }
 
     // The greatest of the three distances, or 1.
-    #[tactic(auto, unfolding(crate::specs::Weight::triple, crate::specs::Weight::m_of))]
+    #[tactic(auto, unfolding(crate::specs::Weight::m_of))]
     pub(crate) fn span(self) -> Distance
         ensures { result.steps ≡ pos (m_of (run_of self)) }
     {
@@ -159,7 +162,6 @@ impl Run {
     }
 
     // The first axis on which the distance is `m`.
-    #[tactic(auto, unfolding(crate::specs::Weight::triple))]
     pub(crate) fn major(self, m: Distance) -> Axis
         ensures { result ≡ major_of (unsigned_abs m.steps) (run_of self) }
     {

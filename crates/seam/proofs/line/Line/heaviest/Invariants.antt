@@ -1,8 +1,7 @@
 use Rattle.std.proofs.Common.{◌≡◌, ◌+◌, ◌-◌}
 use Rattle.kinds.specs.Vertex.{told}
-use Rattle.seam.specs.Heaviest.{heaviest}
-use Rattle.seam.specs.Places.{vertex_at, run_of}
-use Rattle.seam.specs.Weight.{weights_from}
+use Rattle.seam.specs.Seam.{heaviest}
+use Rattle.seam.specs.Weight.{vertex_at, run_of, weights_from}
 use Rattle.seam.proofs.line.Line.heaviest.Given as goal
 
 -- the heaviest of the vertices that were passed

@@ -1,6 +1,6 @@
 use Rattle.std.proofs.Common.{◌≡◌, length, refl, arith}
 use Rattle.std.proofs.lemmas.List.{nil_from_length}
-use Rattle.seam.specs.Chord.{parts_of}
+use Rattle.seam.specs.Split.{parts_of}
 use Rattle.seam.specs.Seam.{tree_of}
 use Rattle.seam.proofs.Waiting.{inner, room, counted, pushed, pushed-less, popped, popped-less, ended}
 use Rattle.seam.proofs.Vertices.{pick-inner}
@@ -41,4 +41,4 @@ unfolding tree_of
 returns g c =
     let none : length c.chords.waiting.items ≡ 0 = grind (arith, c.in-None-pop.ensures.variant) in
     let e = ended (pick-inner _ _) c.chords.invariant (omega arith) c.in-None.ensures (nil_from_length c.chords.waiting.items none) in
-    record { marks = e.0; count = e.1; waits = e.2 }
+    record { marks = e.0; count = e.1; waits = e.2; few = e.3 }

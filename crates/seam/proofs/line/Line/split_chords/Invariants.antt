@@ -1,7 +1,7 @@
-use Rattle.std.proofs.Common.{◌-◌, ◌∷◌, length}
+use Rattle.std.proofs.Common.{◌-◌, length}
 use Rattle.kinds.specs.Vertex.{told}
 use Rattle.seam.specs.Seam.{pick}
-use Rattle.seam.proofs.Waiting.{Going, turns_all, tree_of, owed}
+use Rattle.seam.proofs.Waiting.{Going, turns}
 use Rattle.seam.proofs.line.Line.split_chords.Given as goal
 
 -- what is done, and what the chord in hand and those that wait still owe
@@ -10,5 +10,4 @@ invariant-chords g l = Going (pick (told g.K.PointKind.kind l.self.points.now) l
 
 abbrev pub decreases-chords : goal.decreases-chords
 decreases-chords g l =
-    let p = pick (told g.K.PointKind.kind l.self.points.now) l.tolerance.steps in
-    turns_all (tree_of p l.chord ∷ owed p l.waiting.items)
+    turns l.count l.waiting.items
