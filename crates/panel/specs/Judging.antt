@@ -1,112 +1,94 @@
 -- The panel that a file means, or why it is refused and where: pieces in the order of the file, and within a piece the
--- smaller number first.
-use Rattle.std.specs.Prelude.{ℕ, zero, suc, ◌+◌, Bool, cond, List, [], ◌∷◌, length, take, drop, ℤ, Some, None, Ok, Err, Option, Result, ◌==◌, from_bits, nat_lt, slice_index, Float}
-use Rattle.std.specs.List.{list_all}
-use Rattle.std.specs.Float.{binary32}
-use Rattle.refusal.specs.declared.Why.{Why}
-use Rattle.refusal.specs.declared.Why.TheVariants.{Truncated, Letter, AxisCount, PredictorByte, PackingByte, VertexCount, ShortList, Code, Trailing}
+-- smaller number first. A panel is judged from any place on, and what follows it is answered.
+use Rattle.std.specs.Prelude.{ℕ, zero, suc, List, [], ◌∷◌, take, ℤ, Ok, Err, Result}
+use Rattle.std.specs.Result.{result_map_both}
+use Rattle.words.specs.Order.{Order}
 use Rattle.refusal.specs.declared.Refusal.{Refusal}
-use Rattle.refusal.specs.Refusals.{refusal_at}
+use Rattle.refusal.specs.Refusals.{and_then, refusal_at}
 use Rattle.predict.specs.Predictor.{PredictorMeaning}
 use Rattle.predict.specs.Residues.{values}
 use Rattle.pack.specs.Packing.{ReadingMeaning}
-use Rattle.range.specs.Judged.{refusal}
-use Rattle.range.specs.Scale.{Scale, scale_from, is_code}
-use Rattle.panel.specs.Words.{word}
+use Rattle.range.specs.Scale.{Scale, scale_of}
 use Rattle.panel.specs.Panel.{Axis, Panel}
+use Rattle.panel.specs.Layout.{Rest, rest_at, past, Layout, header_piece, range_piece, length_piece, end_piece}
+use Rattle.panel.specs.Faults.{unless, piece_faults, header_faults, range_faults, cut_short, code_faults, trailing_faults}
 
--- refused for a reason, at a place
-abbrev pub refuse : {X : Type 0} → Why → ℕ → Result X Refusal
-refuse w at = Err (refusal_at w at)
+-- an axis as it stands in a file: its scale, what is stored of its codes, and where its body begins
+pub record Opened : Type 0 where
+  pub scale : Scale
+  pub stored : List ℤ
+  pub place : ℕ
 
--- the first refusal ends the judging
-abbrev pub and_then : {X Y E : Type 0} → Result X E → (X → Result Y E) → Result Y E
-and_then (Ok x) f = f x
-and_then (Err e) f = Err e
+-- a piece at the front of what is left: what it says, and what follows it
+abbrev pub taken : {X : Type 0} → Layout X → Rest → Result (X × Rest) Refusal
+taken l r = unless (piece_faults l r) (Ok (l.says r.bytes, past l.size r))
 
--- a piece of n bytes at a place, by its letter
-abbrev pub piece : {X : Type 0} → ℕ → ℕ → ℕ → List ℕ → Result X Refusal → Result X Refusal
-piece n letter at bs good = cond (nat_lt (length bs) n) (refuse Truncated at) (cond (slice_index bs 0 == letter) good (refuse Letter at))
+-- so many bytes, and what follows them
+abbrev pub bytes_taken : ℕ → Rest → Result (List ℕ × Rest) Refusal
+bytes_taken n r = unless (cut_short n r) (Ok (take n r.bytes, past n r))
 
--- a vertex count, for lists of so much room
-abbrev pub counted : ℕ → ℕ → Result ℕ Refusal
-counted room n = cond (nat_lt n 2) (refuse VertexCount 0) (cond (nat_lt 4096 n) (refuse VertexCount 0) (cond (nat_lt room n) (refuse ShortList 0) (Ok n)))
+-- E, and what follows it
+abbrev pub end_at : Rest → Result Rest Refusal
+end_at r = and_then (taken end_piece r) (λ e. Ok e.1)
 
--- N: the vertex count, of a file for so many axes, this predictor and this packing
-abbrev pub head_at : ℕ → ℕ → ℕ → ℕ → List ℕ → Result ℕ Refusal
-head_at axes predictor packing room bs =
-    piece 8 0x4E 0 bs
-    (cond (slice_index bs 1 == axes)
-    (cond (slice_index bs 2 == predictor)
-    (cond (slice_index bs 3 == packing) (counted room (word bs 4)) (refuse PackingByte 0))
-    (refuse PredictorByte 0))
-    (refuse AxisCount 0))
-
--- a scale of such bits and ends, unless a reason speaks against it
-abbrev pub scaled : ℕ → ℕ → Float → Float → Option Why → Result Scale Refusal
-scaled at b l u None = Ok (scale_from b l u)
-scaled at b l u (Some e) = refuse e at
-
--- the scale of such bits and ends, or why there is none
-abbrev pub scaled_by : ℕ → ℕ → Float → Float → Result Scale Refusal
-scaled_by at b l u = scaled at b l u (refusal b l u)
+-- nothing follows
+abbrev pub nothing_follows : Rest → Result (Unit {0}) Refusal
+nothing_follows r = unless (trailing_faults r) (Ok tt)
 
 -- Q: the scale
-abbrev pub range_at : ℕ → List ℕ → Result Scale Refusal
-range_at at bs = piece 10 0x51 at bs (scaled_by at (slice_index bs 1) (from_bits binary32 (word bs 2)) (from_bits binary32 (word bs 6)))
+abbrev pub scale_at : Order → Rest → Result (Scale × Rest) Refusal
+scale_at o r = and_then (taken (range_piece o) r) (λ w. unless (range_faults w.0 r.at) (Ok (scale_of w.0, w.1)))
 
--- V: the body's length
-abbrev pub length_at : ℕ → List ℕ → Result ℕ Refusal
-length_at at bs = piece 5 0x56 at bs (Ok (word bs 1))
+-- a body of so many bytes, in which n entries are due: what the packing reads in it
+abbrev pub body_at : Order → ReadingMeaning → ℕ → ℕ → Rest → Result (List ℤ × Rest) Refusal
+body_at o q n len r =
+    and_then (bytes_taken len r) (λ b.
+    result_map_both (λ list. (list, b.1)) (λ why. refusal_at why r.at) (q.reads o n b.0))
 
--- E, and nothing after it
-abbrev pub end_at : ℕ → List ℕ → Result (Unit {0}) Refusal
-end_at at bs = piece 1 0x45 at bs (cond (length bs == 1) (Ok tt) (refuse Trailing (at + 1)))
+-- Q, V and the body of an axis
+unfoldable pub opened : Order → ReadingMeaning → ℕ → Rest → Result (Opened × Rest) Refusal
+opened o q n r =
+    and_then (scale_at o r) (λ s.
+    and_then (taken (length_piece o) s.1) (λ v.
+    and_then (body_at o q n v.0 v.1) (λ b.
+    Ok (record { scale = s.0; stored = b.0; place = v.1.at }, b.1))))
 
--- every code is one of the scale's
-unfoldable pub all_codes : Scale → List ℤ → Bool
-all_codes s cs = list_all (is_code s) cs
+-- with its codes, once the predictor is undone, if each is one of the scale
+abbrev pub coded : PredictorMeaning → Opened × Rest → Result (Axis × Rest) Refusal
+coded m x =
+    let codes : List ℤ = values m x.0.stored in
+    unless (code_faults x.0.scale codes x.0.place) (Ok (record { scale = x.0.scale; codes = codes }, x.1))
 
--- codes, if each is one of the scale
-abbrev pub coded : ℕ → Scale → List ℤ → Result (List ℤ) Refusal
-coded at s cs = cond (all_codes s cs) (Ok cs) (refuse Code at)
+-- one axis before the others
+abbrev pub with_axis : Axis → List Axis × Rest → Result (List Axis × Rest) Refusal
+with_axis x xs = Ok (x ∷ xs.0, xs.1)
 
--- what is left of a file, and the place of its first byte
-abbrev pub Rest : Type 0
-Rest = List ℕ × ℕ
+module _ (o : Order) (m : PredictorMeaning) (q : ReadingMeaning) where
+  -- N: the vertex count, of a file for so many axes and a point list of so much room
+  abbrev pub head_at : ℕ → ℕ → Rest → Result (ℕ × Rest) Refusal
+  head_at axes room r =
+      and_then (taken (header_piece o) r) (λ h. unless (header_faults m q axes room h.0 r.at) (Ok (h.0.count, h.1)))
 
-module _ (m : PredictorMeaning) (q : ReadingMeaning) (n : ℕ) where
-  -- the codes of a body, once the predictor is undone
-  abbrev pub undone : ℕ → Scale → Result (List ℤ) Why → Result (List ℤ) Refusal
-  undone at s (Ok rs) = coded at s (values m rs)
-  undone at s (Err e) = refuse e at
+  -- an axis
+  abbrev pub axis_at : ℕ → Rest → Result (Axis × Rest) Refusal
+  axis_at n r = and_then (opened o q n r) (coded m)
 
-  -- a body of so many bytes
-  unfoldable pub body_at : ℕ → Scale → ℕ → List ℕ → Result (List ℤ) Refusal
-  body_at at s len bs = cond (nat_lt (length bs) len) (refuse Truncated at) (undone at s (q.reads n (take len bs)))
+  -- so many axes
+  unfoldable pub axes_at : ℕ → ℕ → Rest → Result (List Axis × Rest) Refusal
+  axes_at n zero r = Ok ([], r)
+  axes_at n (suc a) r = and_then (axis_at n r) (λ x. and_then (axes_at n a x.1) (with_axis x.0))
 
-  -- Q, V and the body of an axis, and what follows them
-  unfoldable pub axis_at : Rest → Result (Axis × Rest) Refusal
-  axis_at r =
-      and_then (range_at r.1 r.0) (λ s.
-      and_then (length_at (r.1 + 10) (drop 10 r.0)) (λ len.
-      and_then (body_at (r.1 + 15) s len (drop 15 r.0)) (λ cs.
-      Ok (record { scale = s; codes = cs }, (drop (15 + len) r.0, r.1 + (15 + len))))))
+  -- a panel, for a kind of so many axes and a point list of so much room, and what follows it
+  unfoldable pub panel_at : ℕ → ℕ → Rest → Result (Panel × Rest) Refusal
+  panel_at axes room r =
+      and_then (head_at axes room r) (λ h.
+      and_then (axes_at h.0 axes h.1) (λ x.
+      and_then (end_at x.1) (λ e.
+      Ok (record { count = h.0; axes = x.0 }, e))))
 
-  -- one axis before the others
-  abbrev pub more : Axis → Result (List Axis × Rest) Refusal → Result (List Axis × Rest) Refusal
-  more x (Ok y) = Ok (x ∷ y.0, y.1)
-  more x (Err e) = Err e
-
-  -- so many axes, and what follows them
-  unfoldable pub axes_at : ℕ → Rest → Result (List Axis × Rest) Refusal
-  axes_at zero r = Ok ([], r)
-  axes_at (suc a) r = and_then (axis_at r) (λ x. more x.0 (axes_at a x.1))
-
--- the panel of a file, for a kind of so many axes and a point list of so much room
-unfoldable pub judged : PredictorMeaning → ReadingMeaning → ℕ → ℕ → List ℕ → Result Panel Refusal
-judged m q axes room file =
-    and_then (head_at axes m.number q.number room file) (λ n.
-    and_then (axes_at m q n axes (drop 8 file, 8)) (λ x.
-    and_then (end_at x.1.1 x.1.0) (λ _.
-    Ok (record { count = n; axes = x.0 }))))
+  -- the panel of a whole file
+  unfoldable pub judged : ℕ → ℕ → List ℕ → Result Panel Refusal
+  judged axes room file =
+      and_then (panel_at axes room (rest_at file 0)) (λ p.
+      and_then (nothing_follows p.1) (λ _.
+      Ok p.0))
