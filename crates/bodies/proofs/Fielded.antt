@@ -1,13 +1,13 @@
 -- Packing 1 is a packing: what is read are as many numbers of 32 bits as are due, and what is written is read back.
-use Rattle.std.specs.Prelude.{◌≡◌, ℕ, zero, suc, ◌+◌, ◌*◌, ◌/◌, ◌%◌, ◌^◌, ◌<◌, ◌≤◌, ◌⊎◌, true, ◌&&◌, List, [], ◌∷◌, ◌++◌, map, length, take, drop, ℤ, pos, ◌+ℤ◌, ◌-ℤ◌, ◌≤ℤ◌, fold, ◌==◌, nat_le, slice_index, refl, Ok, Err, Result, IfOk, IfErr}
-use Rattle.std.proofs.Common.{sym, ap, ap₂, subst, cond, ◌∙◌, inl, inr, ⊎_elim, arith, mul-le-mul_left, mod-eq_of_lt, eqb-true, leb-true, lit<, lit≤, of_z, length-append}
+use Rattle.std.specs.Prelude.{◌≡◌, ℕ, ◌+◌, ◌*◌, ◌/◌, ◌%◌, ◌^◌, ◌<◌, ◌≤◌, ◌⊎◌, true, ◌&&◌, List, [], ◌∷◌, ◌++◌, map, length, take, drop, ℤ, pos, ◌+ℤ◌, ◌-ℤ◌, ◌≤ℤ◌, fold, ◌==◌, nat_le, slice_index, refl, Ok, Err, Result, IfOk, IfErr}
+use Rattle.std.proofs.Common.{sym, ap, ap₂, subst, ◌∙◌, inl, inr, ⊎_elim, arith, mul-le-mul_left, mod-eq_of_lt, eqb-true, leb-true, lit<, lit≤, of_z, length-append}
 use Rattle.std.proofs.Math.Nat.{mul-mod_left}
 use borrow.Author.Differences.{abs_is}
 use Rattle.std.specs.Int.{int_min, int_wrap, w32}
 use Rattle.std.specs.List.{AllByRecursion}
 use Rattle.std.specs.Int.Digits.{digits_of, number_from_digits, AllBelowBase}
 use Rattle.std.proofs.ByRecursion.{all-has, folded_min_z_bounds, folded_min_z_reached}
-use Rattle.std.proofs.lemmas.List.{length-map, take_at, drop_at, get_or-append_right}
+use Rattle.std.proofs.lemmas.List.{length-map}
 use Rattle.std.proofs.lemmas.Bool.{le-leb, eq-eqb, and_from, and_parts, cond-true, cond_both}
 use Rattle.std.proofs.lemmas.Nat.{shl-shr, shl_below}
 use Rattle.std.proofs.lemmas.Int.{ints, int_wrap_fits, SFits-int_wrap}
@@ -19,7 +19,7 @@ use Rattle.words.specs.Order.{Order, bytes_of, number_of}
 use Rattle.words.specs.Digits.{digits}
 use Rattle.words.proofs.Spelling.{number_back}
 use Rattle.words.proofs.Digits.{pow_pow, length_digits, digits_number, number_digits}
-use Rattle.bodies.specs.Fields.{fields_size, spare, fields, entries, fielded_reads, least, gap, greatest, width_of, laid, packed, fielded_writes, fielded_size}
+use Rattle.bodies.specs.Fields.{fields_size, spare, fields, entries, fielded_reads, least, gap, greatest, width_of, laid, fielded_writes, fielded_size}
 
 -- ---- the fields in their bytes
 

@@ -1,9 +1,8 @@
 -- Packing 0 is a packing: what is read are as many numbers of 32 bits as are due, and what is written is read back.
-use Rattle.std.specs.Prelude.{◌≡◌, ℕ, ◌+◌, ◌*◌, ◌≤◌, ◌⊎◌, List, length, ℤ, ◌==◌, refl, Ok, Result, IfOk, IfErr}
+use Rattle.std.specs.Prelude.{◌≡◌, ℕ, ◌+◌, ◌*◌, ◌≤◌, ◌⊎◌, List, length, ℤ, ◌==◌, refl, Ok, IfOk, IfErr}
 use Rattle.std.proofs.Common.{ap, ◌∙◌, inl, arith}
 use Rattle.std.specs.List.{AllByRecursion}
 use Rattle.std.proofs.lemmas.Bool.{cond_both, cond-true, eq-eqb}
-use Rattle.refusal.specs.declared.Why.{Why}
 use Rattle.refusal.specs.declared.Why.TheVariants.{BodyLength, SpareBits}
 use Rattle.words.specs.Numbers.{Word}
 use Rattle.words.specs.Order.{Order, spelled}

@@ -1,5 +1,5 @@
 -- The least of a list, and the width of its greatest difference.
-use Rattle.std.proofs.Common.{◌≡◌, ℕ, ◌^◌, ◌<◌, ◌≤◌, List, [], ◌∷◌, length, ℤ, ◌≤ℤ◌, fold, refl, sym, subst, inl, inr, suc, arith, lit≤}
+use Rattle.std.proofs.Common.{◌≡◌, ℕ, ◌^◌, ◌<◌, ◌≤◌, List, [], ◌∷◌, length, ℤ, ◌≤ℤ◌, fold, refl, sym, inl, inr, suc, arith, lit≤}
 use Rattle.std.specs.Int.{int_min}
 use Rattle.std.specs.Int.Digits.{AllBelowBase}
 use Rattle.std.proofs.lemmas.Nat.{pow_pos}

@@ -1,4 +1,4 @@
-use Rattle.std.proofs.Common.{◌≡◌, ℕ, suc, ◌+◌, ◌-◌, ◌*◌, ◌/◌, ◌%◌, ◌^◌, ◌<◌, ◌≤◌, List, [], ◌∷◌, ◌++◌, map, length, take, drop, set, ℤ, Some, None, Option, Bor, Iter, sym, ap, ◌∙◌, subst, ap₂, append_assoc, arith, rules}
+use Rattle.std.proofs.Common.{◌≡◌, ℕ, suc, ◌+◌, ◌-◌, ◌*◌, ◌%◌, ◌^◌, ◌<◌, ◌≤◌, List, [], ◌∷◌, ◌++◌, map, length, take, drop, ℤ, sym, ap, ◌∙◌, subst, ap₂, append_assoc, arith, rules}
 use Rattle.std.specs.Option.{MatchOption}
 use Rattle.std.proofs.lemmas.List.{append-nil, length-map, length-set, length-take-le, take_all, take_more_set}
 use Rattle.bodies.specs.Fields.{gap, fields_size}
@@ -64,10 +64,10 @@ loop-byte-preserved c =
     let more : length bytes - i ≡ suc k = omega arith in
     let next = left_byte w fs c.loop-have.have less acc k held.0 (omega (arith, c.loop-have-test.false)) in (
       ap₂ (λ (ys : List ℕ) (n : ℕ). ys ++ left w fs less (acc % 2 ^ less) (n - (i + 1))) (take_more_set bytes i c.bits_above.result inside) (length-set bytes i c.bits_above.result)
-      ∙ append_assoc (take i bytes) (c.bits_above.result ∷ []) (left w fs less (acc % 2 ^ less) k)
-      ∙ ap (λ (ys : List ℕ). take i bytes ++ ys) (ap (λ (v : ℕ). v ∷ left w fs less (acc % 2 ^ less) k) c.bits_above.ensures ∙ sym next ∙ held.1 (suc k))
-      ∙ ap (λ (n : ℕ). take i bytes ++ left w (map (gap b) c.loop-byte.entries.rest.now) c.loop-byte.have (c.loop-byte.acc % 2 ^ c.loop-byte.have) n) (sym more)
-      ∙ c.loop-byte.invariant.0,
+          ∙ append_assoc (take i bytes) (c.bits_above.result ∷ []) (left w fs less (acc % 2 ^ less) k)
+          ∙ ap (λ (ys : List ℕ). take i bytes ++ ys) (ap (λ (v : ℕ). v ∷ left w fs less (acc % 2 ^ less) k) c.bits_above.ensures ∙ sym next ∙ held.1 (suc k))
+          ∙ ap (λ (n : ℕ). take i bytes ++ left w (map (gap b) c.loop-byte.entries.rest.now) c.loop-byte.have (c.loop-byte.acc % 2 ^ c.loop-byte.have) n) (sym more)
+          ∙ c.loop-byte.invariant.0,
       held.0,
       omega (arith, c.loop-have.invariant.1),
     )
