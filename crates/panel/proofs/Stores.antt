@@ -8,8 +8,9 @@ use Rattle.refusal.specs.declared.Refusal.{Refusal}
 use Rattle.kinds.specs.Kind.{KindMeaning}
 use Rattle.kinds.specs.Count.{IsVertexCount}
 use Rattle.panel.specs.Panel.{panel_of, all_inside}
-use Rattle.panel.specs.Written.{written}
-use Rattle.panel.specs.Judging.{refuse}
+use Rattle.panel.specs.Written.{file_of}
+use Rattle.refusal.specs.Refusals.{refuse}
+use Rattle.words.specs.Order.{low_first}
 use Rattle.panel.specs.Stored.{Outcome, filed}
 use Rattle.panel.specs.Laws.{StoresTheFile}
 
@@ -29,11 +30,11 @@ filed-is bytes old n out =
 module _ {P : Type 0} (k : KindMeaning P) where
   pub stores-the-file : StoresTheFile k
   stores-the-file m q ps gs room old n out =
-      let W : Type 0 = IsVertexCount (length ps) × (all_inside k gs ps ≡ true) × (take n out ≡ written m q (panel_of k gs ps)) in
+      let W : Type 0 = IsVertexCount (length ps) × (all_inside k gs ps ≡ true) × (take n out ≡ file_of low_first m q (panel_of k gs ps)) in
       let Q : Outcome → Type 0 = λ (o : Outcome). o ≡ (Ok n, out) → W in
       cond_both (ltb (length ps) 2) _ _ Q (λ _ h. no_way _ n old out h)
       (λ two. cond_both (ltb 4096 (length ps)) _ _ Q (λ _ h. no_way _ n old out h)
       (λ few. cond_both (ltb room (length ps)) _ _ Q (λ _ h. no_way _ n old out h)
       (λ _. cond_both (all_inside k gs ps) _ _ Q
-      (λ inside h. ((omega (arith, ltb-false), omega (arith, ltb-false)), inside, filed-is (written m q (panel_of k gs ps)) old n out h))
+      (λ inside h. ((omega (arith, ltb-false), omega (arith, ltb-false)), inside, filed-is (file_of low_first m q (panel_of k gs ps)) old n out h))
       (λ _ h. no_way _ n old out h))))
