@@ -29,7 +29,7 @@ use Rattle.panel.specs.Layout.{Rest, rest_at, past, Layout, header_piece, range_
 use Rattle.panel.specs.Panel.{Axis, Panel}
 use Rattle.panel.specs.Faults.{Fault, unless, piece_faults, header_faults, range_faults, cut_short, all_codes, code_faults, trailing_faults}
 use Rattle.panel.specs.Judging.{taken, bytes_taken, end_at, nothing_follows, scale_at, body_at, Opened, opened, coded, with_axis, head_at, axis_at, axes_at, panel_at, judged}
-use Rattle.panel.proofs.Faults.{NoneFound, unless_none, then_ok}
+use Rattle.panel.proofs.Faults.{NoneFound, is_count, unless_none, then_ok}
 
 -- an axis of a panel of n vertices
 pub record IsAxis (n : ℕ) (x : Axis) : Type 0 where
@@ -153,8 +153,8 @@ module _ (o : Order) (m : PredictorMeaning) (q : ReadingMeaning) where
     head_holds r =
         then_holds _ (Headed r) (taken (header_piece o) r) _ (taken_holds (header_piece o) r) (λ h was past.
         unless_holds (Headed r) (header_faults m q axes room h.0 r.at) _ (refl, (refl, (refl, (refl, (refl, tt))))) (λ none.
-        let count = and_parts _ _ (not-false _ none.1.1.1.0) in (
-          (leb-true _ _ count.0, leb-true _ _ count.1),
+        (
+          is_count h.0.count none.1.1.1.0,
           ltb-false _ _ none.1.1.1.1.0,
           past,
           λ wide fits.
