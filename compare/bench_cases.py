@@ -4,7 +4,7 @@ import figures
 import panels as p
 import reference as r
 from figures import EXAMPLE, word
-from records import NONE, calls, store
+from records import calls, store
 
 LINE = [(0, 0), (2, 3), (4, 0), (6, 1), (8, 0)]
 LIMIT = 1048576
@@ -80,7 +80,7 @@ def stage_cases():
             ("reloaded", (LOAD, SPLIT, ("load", OTHER))), ("closed", (LOAD, SPLIT, CUT, CLOSE)),
             ("closed-empty", (CLOSE,))]
     nexts = [("load", ("load", OTHER)), ("load-broken", ("load", BROKEN)), ("split", ("split", 0)),
-             ("split-none", ("split", NONE)), ("split-257", ("split", 257)), ("cut", CUT), ("close", CLOSE)]
+             ("split-none", ("split", None)), ("split-257", ("split", 257)), ("cut", CUT), ("close", CLOSE)]
     for stage, way in ways:
         for call, step in nexts:
             # what the bench became is seen in the calls that follow
@@ -89,7 +89,7 @@ def stage_cases():
 
 def run_cases():
     lists = (8, 8, 160)
-    yield calls("calls-example", (2, 2, 21), ("load", EXAMPLE), ("split", NONE), CUT, CLOSE)
+    yield calls("calls-example", (2, 2, 21), ("load", EXAMPLE), ("split", None), CUT, CLOSE)
     yield calls("calls-two-panels", lists, LOAD, SPLIT, CUT, ("load", BROKEN), ("load", OTHER), ("split", 0), CUT, CLOSE)
     yield calls("calls-refused-load-keeps-split", lists, LOAD, SPLIT, ("load", BROKEN), CUT, CLOSE)
     yield calls("calls-refused-split-keeps-split", lists, LOAD, SPLIT, ("split", 300), CUT, CLOSE)
@@ -127,13 +127,13 @@ def waiting_cases():
     arc = figures.parabola()
     for n in list(range(2, 34)) + [62, 63, 64, 65, 126, 127, 128, 255, 256, 257]:
         middle = panel(arc_of(n))
-        yield calls("waiting-arc-%d" % n, (n, n, 0), ("load", middle), ("split", 0), ("split", 1), ("split", NONE))
+        yield calls("waiting-arc-%d" % n, (n, n, 0), ("load", middle), ("split", 0), ("split", 1), ("split", None))
     for case in range(40):
         n = dice.between(3, 40)
         line = dice.of([p.noise(dice, n, 60), p.wobble(dice, n, 20), p.zigzag(n, 25), p.loop(n), p.repeated(n)])
         yield calls("waiting-line-%d" % case, (n, n, 0), ("load", panel(line)), *[("split", t) for t in (0, 1, 3, 8, 40)])
     wide = p.Panel(0, 0, [p.wide_axis(axis) for axis in zip(*arc)]).file()
-    yield calls("waiting-eleven", (4096, 4096, 1), ("load", wide), ("split", 0), ("split", NONE), ("split", 256), CLOSE)
+    yield calls("waiting-eleven", (4096, 4096, 1), ("load", wide), ("split", 0), ("split", None), ("split", 256), CLOSE)
 
 
 def arc_of(n):
@@ -178,7 +178,7 @@ def random_call(dice, files):
     if what < 3:
         return ("load", dice.of(files))
     if what < 6:
-        return ("split", dice.of([NONE, 0, 1, 8, 30, 256, 257]))
+        return ("split", dice.of([None, 0, 1, 8, 30, 256, 257]))
     if what < 9:
         return CUT
     if what == 9:

@@ -26,7 +26,8 @@ def shape_cases():
     for name, points in shapes:
         for t in TOLERANCES:
             panel = p.stepped(dice.below(9), dice.below(2), points)
-            yield run_panel("shape%d-%s-t%d" % (len(points[0]), name, t), panel, tolerance=t)
+            said = "none" if t is None else t
+            yield run_panel("shape%d-%s-t%s" % (len(points[0]), name, said), panel, tolerance=t)
     # exactly at the tolerance and one beyond it
     for t in (0, 1, 8, 255, 256):
         for over in (0, 1):

@@ -5,21 +5,37 @@ The expected part of a record is what the reference implementation answers.
 
 import reference as r
 
-NONE = 65535
-TOLERANCES = [NONE, 0, 1, 2, 8, 255, 256, 257]
+TOLERANCES = [None, 0, 1, 2, 8, 255, 256, 257]
 FULL = (4096, 4096, 40000)
 RUN, STORE, RANGE, CALLS = 0, 1, 2, 3
+# What a call may be given besides its fields: its letter, and how many 32-bit numbers its value has.
+ARGUMENTS = {"tolerance": (b"t", 1), "origin": (b"o", 3), "budget": (b"b", 1)}
 
 
 def sized(data):
     return r.four(len(data)) + data
 
 
-def run(name, data, kind=2, predictor=0, packing=0, tolerance=NONE, lists=FULL):
-    given = None if tolerance == NONE else tolerance
-    due = r.run(kind, predictor, packing, given, *lists, data)
-    body = bytes([kind, predictor, packing]) + tolerance.to_bytes(2, "little")
-    return name, RUN, body + b"".join(r.four(n) for n in lists) + sized(data) + sized(due)
+def fours(numbers):
+    return b"".join(r.four(n) for n in numbers)
+
+
+def arguments(**given):
+    """How many arguments a call is given, and each of them. None says that one is not given."""
+    given = {name: value for name, value in given.items() if value is not None}
+    out = bytes([len(given)])
+    for name, value in given.items():
+        letter, size = ARGUMENTS[name]
+        numbers = value if size > 1 else (value,)
+        assert len(numbers) == size, name
+        out += letter + fours(numbers)
+    return out
+
+
+def run(name, data, kind=2, predictor=0, packing=0, tolerance=None, lists=FULL):
+    due = r.run(kind, predictor, packing, tolerance, *lists, data)
+    body = bytes([kind, predictor, packing]) + fours(lists) + sized(data) + arguments(tolerance=tolerance)
+    return name, RUN, body + sized(due)
 
 
 def run_panel(name, panel, data=None, **more):
@@ -39,10 +55,9 @@ def store(name, kind, predictor, packing, points, ranges, work=None, room=None):
             return no.line()
     room = len(answer(1 << 20)) if room is None else room
     body = bytes([kind, predictor, packing])
-    body += b"".join(bytes([bits]) + r.four(lo) + r.four(hi) for bits, lo, hi in ranges)
-    body += r.four(work) + r.four(room) + r.four(len(points))
-    body += b"".join(r.four(x) for point in points for x in point)
-    return name, STORE, body + sized(answer(room))
+    body += b"".join(bytes([bits]) + fours((lo, hi)) for bits, lo, hi in ranges)
+    body += fours((work, room, len(points))) + fours(x for point in points for x in point)
+    return name, STORE, body + arguments() + sized(answer(room))
 
 
 def range_(name, bits, lower, upper):
@@ -51,17 +66,17 @@ def range_(name, bits, lower, upper):
         due = 0
     except r.Refused as no:
         due = no.number
-    return name, RANGE, bytes([bits]) + r.four(lower) + r.four(upper) + sized(bytes([due]))
+    return name, RANGE, bytes([bits]) + fours((lower, upper)) + arguments() + sized(bytes([due]))
 
 
 def calls(name, lists, *steps):
     """Calls on one flat bench with Lag1 and packing 0, and what each of them answers.
 
-    A step is ("load", file), ("split", tolerance), ("cut",), ("close",),
+    A step is ("load", file), ("split", tolerance or None), ("cut",), ("close",),
     ("mark", index, value) or ("point", index, x, y).
     """
     bench = r.Bench(r.FLAT, *lists)
-    body, due = b"".join(r.four(n) for n in lists) + bytes([len(steps)]), b""
+    body, due = fours(lists) + arguments() + bytes([len(steps)]), b""
     for step in steps:
         body += call_bytes(step)
         due += answer(bench, step)
@@ -71,16 +86,16 @@ def calls(name, lists, *steps):
 def call_bytes(step):
     what, given = step[0], step[1:]
     if what == "load":
-        return b"\0" + sized(given[0])
+        return b"\0" + sized(given[0]) + arguments()
     if what == "split":
-        return b"\1" + given[0].to_bytes(2, "little")
+        return b"\1" + arguments(tolerance=given[0])
     if what == "cut":
-        return b"\2"
+        return b"\2" + arguments()
     if what == "close":
-        return b"\3"
+        return b"\3" + arguments()
     if what == "mark":
         return b"\4" + r.four(given[0]) + bytes([given[1]])
-    return b"\5" + b"".join(r.four(n) for n in given)
+    return b"\5" + fours(given)
 
 
 def answer(bench, step):
@@ -95,9 +110,9 @@ def answer(bench, step):
         if what == "load":
             told = [bench.load(0, 0, given[0])]
         elif what == "split":
-            told = bench.split(None if given[0] == NONE else given[0])
+            told = bench.split(given[0])
         else:
             told = [bench.cut() if what == "cut" else bench.close()]
     except r.Refused as no:
         return bytes([no.number]) + r.four(no.place)
-    return b"\0" + b"".join(r.four(n) for n in told)
+    return b"\0" + fours(told)

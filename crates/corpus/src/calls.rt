@@ -1,6 +1,7 @@
 // A list of calls on one bench of the flat kind, with the same three lists throughout.
+use crate::arguments::{Arguments, none};
 use crate::reader::Reader;
-use crate::run::{point, tolerance};
+use crate::run::point;
 use anyhow::anyhow;
 use bench::Bench;
 use kinds::Flat;
@@ -19,15 +20,19 @@ enum Call<'a> {
 }
 
 impl<'a> Call<'a> {
-    // The next one of a record: its number, and what it takes.
+    // The next one of a record: its number, its fields, and its arguments.
     fn read(r: &mut Reader<'a>) -> anyhow::Result<Call<'a>> {
         match r.byte()? {
-            0 => Ok(Call::Load { file: r.block()? }),
+            0 => {
+                let file = r.block()?;
+                none(r)?;
+                Ok(Call::Load { file })
+            }
             1 => Ok(Call::Split {
-                tolerance: tolerance(r.short()?),
+                tolerance: Arguments::read(r)?.tolerance,
             }),
-            2 => Ok(Call::Cut),
-            3 => Ok(Call::Close),
+            2 => none(r).map(|_| Call::Cut),
+            3 => none(r).map(|_| Call::Close),
             4 => Ok(Call::Mark {
                 at: r.size()?,
                 mark: r.byte()?,
@@ -53,11 +58,15 @@ struct Table {
 
 impl Table {
     fn new(r: &mut Reader) -> anyhow::Result<Table> {
+        let points = r.list(Flat::default())?;
+        let marks = r.list(0u8)?;
+        let program = r.list(0u8)?;
+        none(r)?;
         Ok(Table {
             bench: Bench::new(),
-            points: r.list(Flat::default())?,
-            marks: r.list(0u8)?,
-            program: r.list(0u8)?,
+            points,
+            marks,
+            program,
             notes: Vec::new(r.heap),
         })
     }

@@ -1,11 +1,12 @@
 // Holds the library to the stored corpus, whose expected answers another program made, and names each case that differs.
 #![tactic(auto)]
 
+mod arguments;
 mod calls;
 mod reader;
 mod run;
 
-use anyhow::anyhow;
+use anyhow::{Context, anyhow};
 use range::range::Range;
 use reader::Reader;
 use run::{CutRecord, StoreRecord};
@@ -13,7 +14,9 @@ use std::fs;
 
 // 0, or the number of the reason why there is no such range.
 fn range_answer(r: &mut Reader) -> anyhow::Result<Vec<u8>> {
-    let number = match Range::try_from(r.words()?) {
+    let words = r.words()?;
+    arguments::none(r)?;
+    let number = match Range::try_from(words) {
         Ok(_) => 0,
         Err(why) => why.number(),
     };
@@ -42,13 +45,12 @@ fn main(rt: HostRuntime) -> anyhow::Result<()> {
             break;
         }
         let length = r.byte()?;
-        let name = r.bytes(usize::from(length))?;
-        let got = found(&mut r)?;
+        let name = std::str::from_utf8(r.bytes(usize::from(length))?)?;
+        let got = found(&mut r).context(format_args!("in the case {name}"))?;
         let expected = r.block()?;
         cases = cases.saturating_add(1);
         if got.as_slice() != expected {
             differ = differ.saturating_add(1);
-            let name = std::str::from_utf8(name)?;
             println!(rt; "differs: {name}")?;
         }
     }

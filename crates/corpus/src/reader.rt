@@ -32,10 +32,6 @@ impl<'a> Reader<'a> {
         Ok(u8::from_le_bytes(self.take()?))
     }
 
-    pub fn short(&mut self) -> anyhow::Result<u16> {
-        Ok(u16::from_le_bytes(self.take()?))
-    }
-
     pub fn number(&mut self) -> anyhow::Result<u32> {
         Ok(u32::from_le_bytes(self.take()?))
     }

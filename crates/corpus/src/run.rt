@@ -1,4 +1,5 @@
 // A panel file cut on a new bench, and design points stored, for any kind, predictor and packing.
+use crate::arguments::{Arguments, none};
 use crate::reader::Reader;
 use anyhow::anyhow;
 use kinds::{Flat, Mould, PointKind};
@@ -6,9 +7,6 @@ use pairing::{Cut, Pairing, Store};
 use range::range::Range;
 use refusal::Refusal;
 use std::alloc::Global;
-
-// A tolerance of a record that stands for none.
-const NONE_GIVEN: u16 = 65535;
 
 // A point kind of which lists are made and filled.
 pub trait Kind: PointKind + Copy + Clone + Default + Drop {}
@@ -36,13 +34,14 @@ pub struct CutRecord;
 impl Record for CutRecord {
     fn answer<K: Kind>(r: &mut Reader) -> anyhow::Result<Vec<u8>> {
         let pairing = pairing(r)?;
-        let tolerance = tolerance(r.short()?);
         let mut points = r.list(K::default())?;
         let mut marks = r.list(0u8)?;
         let mut program = r.list(0u8)?;
+        let file = r.block()?;
+        let given = Arguments::read(r)?;
         let answer = pairing.run(&mut Cut {
-            file: r.block()?,
-            tolerance,
+            file,
+            tolerance: given.tolerance,
             points: points.as_mut_slice(),
             marks: marks.as_mut_slice(),
             program: program.as_mut_slice(),
@@ -61,6 +60,7 @@ impl Record for StoreRecord {
         let mut work = r.list(0i32)?;
         let mut file = r.list(0u8)?;
         let design = design::<K>(r)?;
+        none(r)?;
         let answer = pairing.run(&mut Store {
             design: design.as_slice(),
             ranges: &ranges,
@@ -75,10 +75,6 @@ impl Record for StoreRecord {
 fn pairing(r: &mut Reader) -> anyhow::Result<Pairing> {
     let [predictor, packing] = r.take::<2>()?;
     Pairing::new(predictor, packing).map_err(|_| anyhow!("there is no such pairing"))
-}
-
-pub fn tolerance(n: u16) -> Option<u32> {
-    (n != NONE_GIVEN).then_some(u32::from(n))
 }
 
 // A range of a record, which is always sound.
