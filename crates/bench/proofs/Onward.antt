@@ -5,8 +5,7 @@ use Rattle.refusal.specs.declared.Refusal.{Refusal}
 use Rattle.kinds.specs.Kind.{KindMeaning}
 use Rattle.panel.specs.Judging.{and_then}
 use Rattle.law.specs.declared.Event.TheVariants as event
-use Rattle.law.specs.Calls.{Load, Call, load, split, cut, close, Desk, Lists, State, Effect, Done, fresh, new, admitted, settled, new_finish, close_on, load_on, split_on, cut_on, on_points, on_marks, on_program}
-use Rattle.law.specs.Runs.{run, accepted, noted}
+use Rattle.law.specs.Calls.{Load, Call, load, split, cut, close, Desk, lists_of, State, Effect, Done, fresh, new, admitted, settled, new_finish, close_on, load_on, split_on, cut_on, effect, Vertices, Counts, Length, run, accepted, noted}
 use Rattle.law.specs.Law.{MisplacesNone, NoRunMisplacesAPanel}
 use Rattle.law.proofs.Arms.{err_ok}
 
@@ -40,7 +39,7 @@ module _ {P : Type 0} (k : KindMeaning P) (x : Load) (t : Option ℕ) (ps : List
   Calls = load x ∷ split t ∷ cut ∷ close ∷ []
 
   abbrev at : Desk → List P → List ℕ → List ℕ → State P
-  at d points marks program = record { desk = d; lists = record { points = points; marks = marks; program = program } }
+  at d points marks program = record { desk = d; lists = lists_of points marks program }
 
   abbrev ran : List Call → Effect P → State P
   ran cs o = run k o.after cs
@@ -59,17 +58,17 @@ module _ {P : Type 0} (k : KindMeaning P) (x : Load) (t : Option ℕ) (ps : List
     module _ (n4 : ℕ) (closes : ◌≡◌ {A = Done ℕ (List ℕ)} (Ok n4, d4, bs4) (close_on d3 bs3)) where
       runs : run k start Calls ≡ at d4 ps1 ms2 bs4
       runs =
-          ap (λ done. ran (split t ∷ cut ∷ close ∷ []) (on_points start done)) (sym loads)
-          ∙ ap (λ done. ran (cut ∷ close ∷ []) (on_marks (at d1 ps1 ms bs) done)) (sym splits)
-          ∙ ap (λ done. ran (close ∷ []) (on_program (at d2 ps1 ms2 bs) done)) (sym cuts)
-          ∙ ap (λ done. ran [] (on_program (at d3 ps1 ms2 bs3) done)) (sym closes)
+          ap (λ done. ran (split t ∷ cut ∷ close ∷ []) (effect Vertices (λ l. lists_of l ms bs) done)) (sym loads)
+          ∙ ap (λ done. ran (cut ∷ close ∷ []) (effect Counts (λ l. lists_of ps1 l bs) done)) (sym splits)
+          ∙ ap (λ done. ran (close ∷ []) (effect Length (λ l. lists_of ps1 ms2 l) done)) (sym cuts)
+          ∙ ap (λ done. ran [] (effect Length (λ l. lists_of ps1 ms2 l) done)) (sym closes)
 
       accepts : accepted k start Calls ≡ Calls
       accepts =
-          ap (λ done. adds (load x) (split t ∷ cut ∷ close ∷ []) (on_points start done)) (sym loads)
-          ∙ ap (λ done. load x ∷ adds (split t) (cut ∷ close ∷ []) (on_marks (at d1 ps1 ms bs) done)) (sym splits)
-          ∙ ap (λ done. load x ∷ split t ∷ adds cut (close ∷ []) (on_program (at d2 ps1 ms2 bs) done)) (sym cuts)
-          ∙ ap (λ done. load x ∷ split t ∷ cut ∷ adds close [] (on_program (at d3 ps1 ms2 bs3) done)) (sym closes)
+          ap (λ done. adds (load x) (split t ∷ cut ∷ close ∷ []) (effect Vertices (λ l. lists_of l ms bs) done)) (sym loads)
+          ∙ ap (λ done. load x ∷ adds (split t) (cut ∷ close ∷ []) (effect Counts (λ l. lists_of ps1 l bs) done)) (sym splits)
+          ∙ ap (λ done. load x ∷ split t ∷ adds cut (close ∷ []) (effect Length (λ l. lists_of ps1 ms2 l) done)) (sym cuts)
+          ∙ ap (λ done. load x ∷ split t ∷ cut ∷ adds close [] (effect Length (λ l. lists_of ps1 ms2 l) done)) (sym closes)
 
     pub placed : NoRunMisplacesAPanel k → (r : Result ℕ Refusal) → ◌≡◌ {A = Done ℕ (List ℕ)} (r, d4, bs4) (close_on d3 bs3) → IfOk r (λ n. MisplacesNone k Calls (take n bs4))
     placed law (Err e) closes = tt

@@ -21,7 +21,7 @@ left r ps ms bs = seen r (lists_of ps ms bs)
 -- the bench's answer in plain numbers
 abbrev pub plainly : Said → Answer
 plainly (Ok (Vertices n)) = written n
-plainly (Ok (Counts m n)) = split_in m n
+plainly (Ok (Counts n)) = split_in n.0 n.1
 plainly (Ok (Length n)) = written n
 plainly (Err e) = refused e.why e.place
 

@@ -10,8 +10,7 @@ use Rattle.panel.specs.Placed.{place_at, vertex, placed}
 use Rattle.std.specs.List.{AllByRecursion}
 use Rattle.std.proofs.ByRecursion.{All-map, All-get_or}
 use Rattle.law.specs.Program.{Chain, steps, through as through-all}
-use Rattle.law.specs.Calls.{kept_of}
-use Rattle.law.specs.Runs.{Cut}
+use Rattle.law.specs.Calls.{kept_of, Cut}
 use Rattle.law.specs.Law.{Steps, IsChain, Stored, ByStroke, Meant, Through, Near, Onward, step_on, stroke_from, stroke_to, m_of_stroke, scale_on, marks_of, must_keep}
 use Rattle.law.proofs.Distance.{beside}
 use Rattle.law.proofs.Strokes.{ones-one, ones-grows, length-kept}

@@ -1,5 +1,6 @@
--- The bench with its lists, and what each call does to them: call in, report and lists out.
-use Rattle.std.specs.Prelude.{ℕ, ◌+◌, ◌-◌, Bool, cond, if◌then◌else◌, ◌&&◌, List, [], ◌∷◌, ◌++◌, length, take, drop, Some, None, Ok, Err, Option, Result, unwrap_or, ◌==◌, nat_lt, nat_le, slice_index}
+-- The bench with its lists, and what each call does to them; and lists of calls: what they lead to, which are accepted,
+-- and what each cut draws.
+use Rattle.std.specs.Prelude.{ℕ, ◌+◌, ◌-◌, Bool, true, false, cond, ◌&&◌, List, [], ◌∷◌, ◌++◌, length, take, drop, Some, None, Ok, Err, Option, Result, unwrap_or, ◌==◌, nat_lt, nat_le, slice_index}
 use Rattle.refusal.specs.declared.Why.{Why}
 use Rattle.refusal.specs.declared.Why.TheVariants.{AlreadyClosed, TooEarly, ShortList, Unfit, NoSpace}
 use Rattle.refusal.specs.declared.Refusal.{Refusal}
@@ -62,10 +63,11 @@ fresh = record { stage = Empty; length = 0 }
 abbrev pub new : {P : Type 0} → Lists P → State P
 new lists = record { desk = fresh; lists = lists }
 
--- what an accepted call reports: the vertices loaded; those kept, and the chords that waited; or the program's length
+-- what an accepted call reports: the vertices loaded; those kept, with the chords that waited at most; or the
+-- program's length
 pub data Report : Type 0 where
   Vertices : ℕ → Report
-  Counts : ℕ → ℕ → Report
+  Counts : ℕ × ℕ → Report
   Length : ℕ → Report
 
 -- what a call answers
@@ -76,10 +78,6 @@ Answer = Result Report Refusal
 abbrev pub report_as : {X : Type 0} → (X → Report) → Result X Refusal → Answer
 report_as report (Ok x) = Ok (report x)
 report_as report (Err e) = Err e
-
--- the two counts of a split
-abbrev pub counts : ℕ × ℕ → Report
-counts n = Counts n.0 n.1
 
 -- what a call leads to: its answer, and the bench and lists after it
 pub record Effect (P : Type 0) : Type 0 where
@@ -93,7 +91,7 @@ panel_count (Loaded n) = Some n
 panel_count (Split n) = Some n
 panel_count Closed = None
 
--- what a stage gives a call of this name: the vertex count of its panel, if there is one; or why it refuses the call
+-- what a stage gives a call of this name: the vertex count of its panel, if there is one; or why it refuses
 abbrev pub admitted : Stage → Event → Result (Option ℕ) Refusal
 admitted Closed e = refuse AlreadyClosed 0
 admitted Empty event.Split = refuse TooEarly 0
@@ -133,10 +131,12 @@ longer stage d program bytes =
 
 -- close: the finish, if there is a byte for it
 abbrev pub new_finish : Desk → List ℕ → Result (ℕ × Desk × List ℕ) Refusal
-new_finish d program = cond (nat_lt d.length (length program)) (Ok (longer Closed d program finish)) (refuse NoSpace 0)
+new_finish d program =
+    cond (nat_lt d.length (length program)) (Ok (longer Closed d program finish)) (refuse NoSpace 0)
 
 abbrev pub close_on : Desk → List ℕ → Done ℕ (List ℕ)
-close_on d program = settled d program (and_then (admitted d.stage event.Close) (λ _. new_finish d program))
+close_on d program =
+    settled d program (and_then (admitted d.stage event.Close) (λ _. new_finish d program))
 
 module _ {P : Type 0} (k : KindMeaning P) where
   -- load: the panel's vertices as placed, at the front of the point list
@@ -149,7 +149,8 @@ module _ {P : Type 0} (k : KindMeaning P) where
       new_panel (judged l.predictor l.packing k.axes (length points) l.file) d points))
 
   -- split: the marks that the rule gives, and the two counts
-  abbrev pub new_marks : Option Why → ℕ → ℕ → Desk → List P → List ℕ → Result ((ℕ × ℕ) × Desk × List ℕ) Refusal
+  abbrev pub new_marks :
+      Option Why → ℕ → ℕ → Desk → List P → List ℕ → Result ((ℕ × ℕ) × Desk × List ℕ) Refusal
   new_marks why n t d points marks =
       let tree = tree_of k t n (take n points) in
       unless why ((2 + kept tree, waits tree), record d { stage = Split n }, marked tree (ends n marks))
@@ -172,36 +173,71 @@ module _ {P : Type 0} (k : KindMeaning P) where
       (Some Unfit))
 
   -- cut: the chain
-  abbrev pub new_chain : Option Why → ℕ → Desk → List P → List ℕ → List ℕ → Result (ℕ × Desk × List ℕ) Refusal
-  new_chain why n d points marks program = unless why (longer d.stage d program (drawn n points marks))
-
   abbrev pub cut_on : Desk → List P → List ℕ → List ℕ → Done ℕ (List ℕ)
   cut_on d points marks program = settled d program (and_then (admitted d.stage event.Cut) (λ count.
       let n : ℕ = unwrap_or count 0 in
-      new_chain (why_cut n d.length points marks program) n d points marks program))
+      unless (why_cut n d.length points marks program)
+      (longer d.stage d program (drawn n points marks))))
 
--- what a call did to its list, among all three
-abbrev pub on_points : {P : Type 0} → State P → Done ℕ (List P) → Effect P
-on_points s done = record {
-  answer = report_as Vertices done.0;
-  after = record { desk = done.1; lists = record s.lists { points = done.2 } };
-}
-
-abbrev pub on_marks : {P : Type 0} → State P → Done (ℕ × ℕ) (List ℕ) → Effect P
-on_marks s done = record {
-  answer = report_as counts done.0;
-  after = record { desk = done.1; lists = record s.lists { marks = done.2 } };
-}
-
-abbrev pub on_program : {P : Type 0} → State P → Done ℕ (List ℕ) → Effect P
-on_program s done = record {
-  answer = report_as Length done.0;
-  after = record { desk = done.1; lists = record s.lists { program = done.2 } };
-}
+-- what a call on one list leads to among all three, with its report
+abbrev pub effect : {X L P : Type 0} → (X → Report) → (L → Lists P) → Done X L → Effect P
+effect report lists done =
+    record { answer = report_as report done.0; after = record { desk = done.1; lists = lists done.2 } }
 
 -- one call
 abbrev pub step : {P : Type 0} → KindMeaning P → State P → Call → Effect P
-step k s (load l) = on_points s (load_on k l s.desk s.lists.points)
-step k s (split t) = on_marks s (split_on k t s.desk s.lists.points s.lists.marks)
-step k s cut = on_program s (cut_on k s.desk s.lists.points s.lists.marks s.lists.program)
-step k s close = on_program s (close_on s.desk s.lists.program)
+step k s (load l) =
+    effect Vertices (λ points. record s.lists { points = points }) (load_on k l s.desk s.lists.points)
+step k s (split t) =
+    effect Counts (λ marks. record s.lists { marks = marks }) (split_on k t s.desk s.lists.points s.lists.marks)
+step k s cut =
+    effect Length (λ program. record s.lists { program = program })
+    (cut_on k s.desk s.lists.points s.lists.marks s.lists.program)
+step k s close =
+    effect Length (λ program. record s.lists { program = program }) (close_on s.desk s.lists.program)
+
+-- ---- lists of calls on one bench
+
+module _ {P : Type 0} (k : KindMeaning P) where
+  -- each call starts from what those before it left
+  abbrev pub run : State P → List Call → State P
+  run s [] = s
+  run s (c ∷ cs) = run (step k s c).after cs
+
+  -- a call is noted if its answer is no refusal
+  abbrev pub noted : Call → Answer → List Call → List Call
+  noted c (Ok report) cs = c ∷ cs
+  noted c (Err e) cs = cs
+
+  -- the calls that were accepted, in their order
+  abbrev pub accepted : State P → List Call → List Call
+  accepted s [] = []
+  accepted s (c ∷ cs) = noted c (step k s c).answer (accepted (step k s c).after cs)
+
+-- a cut, with the latest load and the tolerance of the latest split before it
+pub record Cut : Type 0 where
+  pub panel : Load
+  pub tolerance : ℕ
+
+-- a cut after such a latest load and split
+abbrev pub cut_of : Option Load → Option ℕ → Option Cut
+cut_of (Some l) (Some t) = Some (record { panel = l; tolerance = t })
+cut_of l t = None
+
+-- the cuts of a list of accepted calls, after such a latest load and split
+abbrev pub cuts_after : Option Load → Option ℕ → List Call → List (Option Cut)
+cuts_after l t [] = []
+cuts_after l t (load new ∷ cs) = cuts_after (Some new) t cs
+cuts_after l t (split new ∷ cs) = cuts_after l (Some (tolerance new)) cs
+cuts_after l t (cut ∷ cs) = cut_of l t ∷ cuts_after l t cs
+cuts_after l t (close ∷ cs) = cuts_after l t cs
+
+-- the cuts of a list of accepted calls on a new bench
+abbrev pub cuts : List Call → List (Option Cut)
+cuts cs = cuts_after None None cs
+
+-- whether a close is among them
+abbrev pub closes : List Call → Bool
+closes [] = false
+closes (close ∷ cs) = true
+closes (c ∷ cs) = closes cs

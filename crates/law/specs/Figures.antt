@@ -10,8 +10,7 @@ use Rattle.pack.specs.Plain.{plain}
 use Rattle.pack.specs.Fielded.{fielded}
 use Rattle.pack.specs.Figures as pack
 use Rattle.seam.specs.Figures as seam
-use Rattle.law.specs.Calls.{Call, load, load_of, split, cut, close, State, lists_of, new}
-use Rattle.law.specs.Runs.{run, accepted}
+use Rattle.law.specs.Calls.{Call, load, load_of, split, cut, close, State, lists_of, new, run, accepted}
 use Rattle.law.specs.Law.{Stored}
 
 -- a range piece: 4 bits, from 0 to 16 mm

@@ -15,8 +15,7 @@ use Rattle.seam.specs.Weight.{from_to, m_of}
 use Rattle.seam.specs.Split.{marked}
 use Rattle.seam.specs.Seam.{ends, tree_of}
 use Rattle.law.specs.Program.{Chain, steps, program_bytes}
-use Rattle.law.specs.Calls.{Load, Call, Lists, new, kept_of}
-use Rattle.law.specs.Runs.{run, accepted, Cut, cuts, closes}
+use Rattle.law.specs.Calls.{Load, Call, Lists, new, kept_of, run, accepted, Cut, cuts, closes}
 
 -- ---- what a program is read as
 
