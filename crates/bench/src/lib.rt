@@ -2,9 +2,9 @@
 #![tactic(auto)]
 
 ghost use Rattle.std.specs.Prelude.{◌≡◌, ◌≤◌, [], ◌∷◌, length, take, IfOk};
-ghost use Rattle.law.specs.Calls.{new as untouched, load as Load, split as Split, cut as Cut, close as Close, told_as, Length};
+ghost use Rattle.law.specs.Calls.{load_of, load as Load, split as Split, cut as Cut, close as Close, lists_of, report_as, Length};
 ghost use Rattle.law.specs.Law.{MisplacesNone, NoRunMisplacesAPanel};
-ghost use Rattle.bench.specs.Onward.{seen, onward};
+ghost use Rattle.bench.specs.Panels.{seen, one_panel};
 
 use kinds::PointKind;
 use law::no_run_misplaces;
@@ -25,10 +25,10 @@ pub fn cut_panel<K: PointKind + Copy, P: Predictor, Q: Unpacking>(
     marks: &mut [u8],
     program: &mut [u8],
 ) -> Result<usize, Refusal>
-    ensures does { onward K.kind (untouched points.old marks.old program.old)
-        (Load P.means Q.reading file.now) (Split tolerance ∷ Cut ∷ Close ∷ [])
-        ≡ seen (told_as Length result) points.new marks.new program.new }
-    ensures placed { let load = Load P.means Q.reading file.now in
+    ensures seen { let load = load_of P.means Q.reading file.now in
+        one_panel K.kind load tolerance (lists_of points.old marks.old program.old)
+        ≡ seen (report_as Length result) (lists_of points.new marks.new program.new) }
+    ensures placed { let load = Load (load_of P.means Q.reading file.now) in
         let calls = load ∷ Split tolerance ∷ Cut ∷ Close ∷ [] in
         IfOk result (λ n. MisplacesNone K.kind calls (take n program.new)) }
     ensures within { IfOk result (λ n. n ≤ length program.new) }

@@ -1,11 +1,11 @@
 -- What a cut for C answers and leaves in the three lists.
-use Rattle.std.specs.Prelude.{ℕ, cond, List, [], ◌∷◌, Some, None, Option, Ok, Err, ◌==◌}
+use Rattle.std.specs.Prelude.{ℕ, cond, List, Some, None, Option, Ok, Err, ◌==◌}
 use Rattle.refusal.specs.declared.Why.{Why}
 use Rattle.kinds.specs.Kind.{KindMeaning}
 use Rattle.predict.specs.Predictor.{PredictorMeaning}
 use Rattle.pack.specs.Packing.{ReadingMeaning}
-use Rattle.law.specs.Calls.{new, load, split, cut, close, Vertices, Kept, Length, Answer as Said}
-use Rattle.bench.specs.Onward.{Seen, seen, onward}
+use Rattle.law.specs.Calls.{load_of, lists_of, Vertices, Counts, Length, Answer as Said}
+use Rattle.bench.specs.Panels.{Seen, seen, one_panel}
 use Rattle.controller.specs.declared.answer.Answer.{Answer}
 use Rattle.controller.specs.Answers.{refused, written, split_in}
 use Rattle.pairing.specs.Pairings.{predictor_at, packing_at, why_numbers}
@@ -16,18 +16,18 @@ Left P = Seen Answer P
 
 -- an answer beside the three lists
 abbrev pub left : {P : Type 0} → Answer → List P → List ℕ → List ℕ → Left P
-left r ps ms bs = seen r ps ms bs
+left r ps ms bs = seen r (lists_of ps ms bs)
 
 -- the bench's answer in plain numbers
 abbrev pub plainly : Said → Answer
 plainly (Ok (Vertices n)) = written n
-plainly (Ok (Kept m n)) = split_in m n
+plainly (Ok (Counts n)) = split_in n.0 n.1
 plainly (Ok (Length n)) = written n
 plainly (Err e) = refused e.why e.place
 
 -- what is seen of the bench, in plain numbers
 abbrev pub left_by : {P : Type 0} → Seen Said P → Left P
-left_by s = left (plainly s.answer) s.points s.marks s.program
+left_by s = seen (plainly s.answer) s.lists
 
 -- the tolerance that a number stands for: 2^32 - 1 for none
 abbrev pub given_by : ℕ → Option ℕ
@@ -36,7 +36,7 @@ given_by t = cond (t == 4294967295) None (Some t)
 module _ {P : Type 0} (k : KindMeaning P) where
   -- load, split, cut and close on a new bench, up to the first that is refused
   abbrev pub cut_with : PredictorMeaning → ReadingMeaning → ℕ → List ℕ → List P → List ℕ → List ℕ → Left P
-  cut_with m q t file ps ms bs = left_by (onward k (new ps ms bs) (load m q file) (split (given_by t) ∷ cut ∷ close ∷ []))
+  cut_with m q t file ps ms bs = left_by (one_panel k (load_of m q file) (given_by t) (lists_of ps ms bs))
 
   -- refused for a reason given, the lists stay
   abbrev pub cut_unless : Option Why → PredictorMeaning → ReadingMeaning → ℕ → List ℕ → List P → List ℕ → List ℕ → Left P

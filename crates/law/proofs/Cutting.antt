@@ -9,9 +9,8 @@ use Rattle.panel.specs.Placed.{place_at, vertex, placed}
 use Rattle.std.specs.List.{AllByRecursion}
 use Rattle.std.proofs.ByRecursion.{All-map, All-get_or}
 use Rattle.law.specs.Program.{Chain, steps, through as through-all}
-use Rattle.law.specs.Calls.{kept}
-use Rattle.law.specs.Runs.{Cut}
-use Rattle.law.specs.Law.{Steps, Whole, Stored, ByStroke, Meant, Through, Near, Onward, on, begin_of, end_of, greatest, scale_on, marks_of, must_keep}
+use Rattle.law.specs.Calls.{kept_of, Cut}
+use Rattle.law.specs.Law.{Steps, IsChain, Stored, ByStroke, Meant, Through, Near, Onward, step_on, stroke_from, stroke_to, m_of_stroke, scale_on, marks_of, must_keep}
 use Rattle.law.proofs.Distance.{beside}
 use Rattle.law.proofs.Strokes.{ones-one, ones-grows, length-kept}
 use Rattle.law.proofs.Vertices.{length-placed, at-placed, vertex-tells}
@@ -71,21 +70,21 @@ module _ {P : Type 0} (k : KindMeaning P) (w : Cut) (x : Panel) (meant : Meant k
       let same : x ≡ panel_of k gs design = cc in
       let count : x.count ≡ length design = ap (λ (y : Panel). y.count) same in
       let lies = lies_along k w.tolerance x many chain_of is i (omega arith) in
-      let A : List ℤ = begin_of chain_of (stroke k w.tolerance x many i) in
-      let B : List ℤ = end_of chain_of (stroke k w.tolerance x many i) in
+      let A : List ℤ = stroke_from chain_of (stroke k w.tolerance x many i) in
+      let B : List ℤ = stroke_to chain_of (stroke k w.tolerance x many i) in
       record {
         real = lies.0;
         beside = record {
           along = lies.1.along;
           short = lies.1.short;
           off = λ j l.
-              beside (quanta (scale_on gs j)) (width (scale_on gs j)) (greatest A B) w.tolerance lies.1.along (at (told k design) i j) (at (told k (placed k x)) i j) (on A j) (on B j -ℤ on A j)
+              beside (quanta (scale_on gs j)) (width (scale_on gs j)) (m_of_stroke A B) w.tolerance lies.1.along (at (told k design) i j) (at (told k (placed k x)) i j) (step_on A j) (step_on B j -ℤ step_on A j)
               (close gs design s same i j h l)
               (lies.1.off j (omega (arith, k.few_axes)));
         };
       }
 
-  ending : end_of chain_of (length chain_of.strokes - 1) ≡ steps k (vertex k x (x.count - 1))
+  ending : stroke_to chain_of (length chain_of.strokes - 1) ≡ steps k (vertex k x (x.count - 1))
   ending =
       let ms = marks_of k w.tolerance x in
       let near = marks-near k w.tolerance x many in
@@ -98,11 +97,11 @@ module _ {P : Type 0} (k : KindMeaning P) (w : Cut) (x : Panel) (meant : Meant k
       ap (λ (c : ℕ). get_or (chain_of.from ∷ chain_of.strokes) c []) number ∙ stands k w.tolerance x many chain_of is n (omega arith) near.last
 
   -- its steps fit a program's numbers, where the split found each vertex close by
-  pub whole : all_close_by (told k (placed k x)) ≡ true → Whole k.axes chain_of
+  pub whole : all_close_by (told k (placed k x)) ≡ true → IsChain k.axes chain_of
   unfolding must_keep
   whole near =
       let all : AllByRecursion (Steps k.axes) (chain_of.from ∷ chain_of.strokes) =
-      subst (AllByRecursion (Steps k.axes)) (sym is) (All-map (Steps k.axes) (steps k) (kept (marks_of k w.tolerance x) (placed k x))
+      subst (AllByRecursion (Steps k.axes)) (sym is) (All-map (Steps k.axes) (steps k) (kept_of (marks_of k w.tolerance x) (placed k x))
       (all-kept (λ p. Steps k.axes (steps k p)) (marks_of k w.tolerance x) (placed k x) (all-steps k (placed k x) near))) in
       record { travel = all.0; some = some-strokes k w.tolerance x many chain_of is; each = all.1 }
 

@@ -8,7 +8,9 @@ use Rattle.panel.specs.Words.{word}
 use Rattle.panel.specs.Panel.{Axis, Panel}
 use Rattle.panel.proofs.PanelBack.{then_was}
 use Rattle.law.proofs.Arms.{not_then, not_else, err_ok}
-use Rattle.panel.specs.Judging.{and_then, counted, head_at, end_at, Rest, axis_at, more, axes_at, judged}
+use Rattle.refusal.specs.Refusals.{and_then}
+use Rattle.panel.specs.Layout.{Rest}
+use Rattle.panel.specs.Judging.{counted, head_at, end_at, axis_at, more, axes_at, judged}
 
 counted-ok : (room w n : ℕ) → counted room w ≡ Ok n → (2 ≤ n) × (n ≤ 4096) × (counted 4096 w ≡ Ok n)
 counted-ok room w n e =

@@ -7,7 +7,7 @@ use Rattle.words.specs.Numbers.{Word}
 use Rattle.words.specs.Order.{low_first, numbers_of, spelled}
 use Rattle.words.proofs.Spelling.{length_spelled, numbers_back}
 use Rattle.law.specs.Program.{Chain, stroke, finish, chain_bytes, program_bytes}
-use Rattle.law.specs.Law.{Steps, Whole, ReadsOnce}
+use Rattle.law.specs.Law.{Steps, IsChain, ReadsOnce}
 
 apart : {X : Type 0} (xs ys us vs : List X) → length xs ≡ length ys → xs ++ us ≡ ys ++ vs → (xs ≡ ys) × (us ≡ vs)
 apart xs ys us vs h e = (
@@ -49,7 +49,7 @@ module _ (axes : ℕ) where
       ap (λ (l : List ℕ). 0x54 ∷ l) (append_assoc (spelled low_first c.from) _ us
       ∙ ap (λ (l : List ℕ). spelled low_first c.from ++ (0x44 ∷ l)) (append_assoc (flat_map stroke c.strokes) (0x55 ∷ []) us))
 
-  chain-once : (c d : Chain) (us vs : List ℕ) → Whole axes c → Whole axes d → chain_bytes c ++ us ≡ chain_bytes d ++ vs → (c ≡ d) × (us ≡ vs)
+  chain-once : (c d : Chain) (us vs : List ℕ) → IsChain axes c → IsChain axes d → chain_bytes c ++ us ≡ chain_bytes d ++ vs → (c ≡ d) × (us ≡ vs)
   chain-once c d us vs a b e =
       let f = sym (chain-spread c us) ∙ e ∙ chain-spread d vs in
       let g : spelled low_first c.from ++ (0x44 ∷ stroke_bytes c.strokes us) ≡ spelled low_first d.from ++ (0x44 ∷ stroke_bytes d.strokes vs) = cc in
@@ -68,7 +68,7 @@ module _ (axes : ℕ) where
   no-chain true d us h = let f = h ∙ chain-spread d us in let z : ◌≡◌ {A = ℕ} 0x45 0x54 = cc in omega arith
   no-chain false d us h = let f = h ∙ chain-spread d us in let z : ◌≡◌ {A = ℕ} 0 1 = cc in omega arith
 
-  chains-once : (cs ds : List Chain) (e f : Bool) → AllByRecursion (Whole axes) cs → AllByRecursion (Whole axes) ds → program_bytes cs e ≡ program_bytes ds f → (cs ≡ ds) × (e ≡ f)
+  chains-once : (cs ds : List Chain) (e f : Bool) → AllByRecursion (IsChain axes) cs → AllByRecursion (IsChain axes) ds → program_bytes cs e ≡ program_bytes ds f → (cs ≡ ds) × (e ≡ f)
   chains-once [] [] e f a b h = (refl, finish-once e f h)
   chains-once [] (d ∷ ds) e f a b h = absurd (no-chain e d (program_bytes ds f) (h ∙ append_assoc (chain_bytes d) (flat_map chain_bytes ds) (cond f finish [])))
   chains-once (c ∷ cs) [] e f a b h = absurd (no-chain f c (program_bytes cs e) (sym h ∙ append_assoc (chain_bytes c) (flat_map chain_bytes cs) (cond e finish [])))
@@ -79,4 +79,4 @@ module _ (axes : ℕ) where
       (ap₂ (λ (x : Chain) (ys : List Chain). x ∷ ys) r.0 s.0, s.1)
 
 pub reads_once : ReadsOnce
-reads_once axes program cs ds e f a b = chains-once axes cs ds e f a.wholes b.wholes (sym a.bytes ∙ b.bytes)
+reads_once axes program cs ds e f a b = chains-once axes cs ds e f a.each b.each (sym a.bytes ∙ b.bytes)

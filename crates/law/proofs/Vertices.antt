@@ -9,7 +9,7 @@ use Rattle.kinds.specs.Vertex.{at, told}
 use Rattle.panel.specs.Panel.{Axis, Panel}
 use Rattle.panel.specs.Placed.{place_at, vertex, placed}
 use Rattle.law.specs.Program.{steps}
-use Rattle.law.specs.Law.{on}
+use Rattle.law.specs.Law.{step_on}
 
 place-past : (xs : List Axis) (j i : ℕ) → length xs ≤ j → place_at xs j i ≡ pos 0
 unfolding place_at
@@ -18,13 +18,13 @@ place-past (x ∷ xs) zero i h = absurd (omega arith)
 place-past (x ∷ xs) (suc j) i h = place-past xs j i (omega arith)
 
 module _ {P : Type 0} (k : KindMeaning P) where
-  on-steps : (p : P) (j : ℕ) → on (steps k p) j ≡ k.coordinate p j
+  on-steps : (p : P) (j : ℕ) → step_on (steps k p) j ≡ k.coordinate p j
   on-steps p j = ⊎_elim
       (λ (h : j < k.axes). get_or-map-range_with_len (k.coordinate p) 0 k.axes j j (pos 0) h (omega arith))
       (λ (h : k.axes ≤ j). get_or_past (steps k p) j (pos 0) (omega (arith, length-map-range_with_len (k.coordinate p) 0 k.axes)) ∙ sym (k.beyond p j h))
       (cases_lt j k.axes)
 
-  pub steps-tell : (p : P) → on (steps k p) ≡ k.coordinate p
+  pub steps-tell : (p : P) → step_on (steps k p) ≡ k.coordinate p
   steps-tell p = fun_ext (on-steps p)
 
   module _ (x : Panel) where

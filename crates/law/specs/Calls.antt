@@ -1,29 +1,38 @@
--- The bench with its lists, and what each call does to them: call in, answer and lists out.
-use Rattle.std.specs.Prelude.{ℕ, ◌+◌, ◌-◌, ◌*◌, cond, ◌&&◌, List, [], ◌∷◌, ◌++◌, length, take, drop, Some, None, Ok, Err, Option, Result, unwrap_or, ◌==◌, nat_lt, slice_index}
-use Rattle.std.specs.Result.{result_map_both}
+-- The bench with its lists, and what each call does to them; and lists of calls: what they lead to, which are accepted,
+-- and what each cut draws.
+use Rattle.std.specs.Prelude.{ℕ, ◌+◌, ◌-◌, Bool, true, false, cond, ◌&&◌, List, [], ◌∷◌, ◌++◌, length, take, drop, Some, None, Ok, Err, Option, Result, unwrap_or, ◌==◌, nat_lt, nat_le, slice_index}
 use Rattle.refusal.specs.declared.Why.{Why}
 use Rattle.refusal.specs.declared.Why.TheVariants.{AlreadyClosed, TooEarly, ShortList, Unfit, NoSpace}
 use Rattle.refusal.specs.declared.Refusal.{Refusal}
-use Rattle.refusal.specs.Refusals.{refusal_at}
 use Rattle.kinds.specs.Kind.{KindMeaning}
 use Rattle.predict.specs.Predictor.{PredictorMeaning}
 use Rattle.pack.specs.Packing.{ReadingMeaning}
+use Rattle.words.specs.Bytes.{overwritten}
 use Rattle.panel.specs.Panel.{Panel}
+use Rattle.refusal.specs.Refusals.{refuse, and_then}
 use Rattle.panel.specs.Judging.{judged}
 use Rattle.panel.specs.Placed.{placed}
 use Rattle.seam.specs.Ones.{ones}
-use Rattle.seam.specs.Split.{marked, waits, kept as kept_in}
+use Rattle.seam.specs.Split.{marked, waits, kept}
 use Rattle.seam.specs.Seam.{ends, tree_of, why_not, short_list}
 use Rattle.law.specs.declared.Stage.{Stage}
 use Rattle.law.specs.declared.Stage.TheVariants.{Empty, Loaded, Split, Closed}
 use Rattle.law.specs.declared.Event.{Event}
 use Rattle.law.specs.declared.Event.TheVariants as event
-use Rattle.words.specs.Bytes.{overwritten}
-use Rattle.law.specs.Program.{chain_bytes, through, finish}
+use Rattle.law.specs.Program.{chain_bytes, chain_size, through, finish}
 
--- a call with its own arguments: a load with a predictor, a packing and a file's bytes; a split with a tolerance or none
+-- what a load is given
+pub record Load : Type 0 where
+  pub predictor : PredictorMeaning
+  pub packing : ReadingMeaning
+  pub file : List ℕ
+
+abbrev pub load_of : PredictorMeaning → ReadingMeaning → List ℕ → Load
+load_of m q file = record { predictor = m; packing = q; file = file }
+
+-- a call with its own arguments; a split has a tolerance or none
 pub data Call : Type 0 where
-  load : PredictorMeaning → ReadingMeaning → List ℕ → Call
+  load : Load → Call
   split : Option ℕ → Call
   cut : Call
   close : Call
@@ -31,75 +40,50 @@ pub data Call : Type 0 where
 -- a bench by itself: its stage, and its program's length
 pub record Desk : Type 0 where
   pub stage : Stage
-  pub size : ℕ
+  pub length : ℕ
 
--- a bench and the three lists that it works on
-pub record State (P : Type 0) : Type 0 where
-  pub desk : Desk
+-- the three lists that a bench works on
+pub record Lists (P : Type 0) : Type 0 where
   pub points : List P
   pub marks : List ℕ
   pub program : List ℕ
 
+abbrev pub lists_of : {P : Type 0} → List P → List ℕ → List ℕ → Lists P
+lists_of points marks program = record { points = points; marks = marks; program = program }
+
+-- a bench and its lists
+pub record State (P : Type 0) : Type 0 where
+  pub desk : Desk
+  pub lists : Lists P
+
 -- a new bench
 abbrev pub fresh : Desk
-fresh = record { stage = Empty; size = 0 }
+fresh = record { stage = Empty; length = 0 }
 
 -- with any lists
-abbrev pub new : {P : Type 0} → List P → List ℕ → List ℕ → State P
-new ps ms bs = record { desk = fresh; points = ps; marks = ms; program = bs }
+abbrev pub new : {P : Type 0} → Lists P → State P
+new lists = record { desk = fresh; lists = lists }
 
--- what an accepted call tells: the vertices loaded; those kept, and the chords that waited; or the program's length
-pub data Told : Type 0 where
-  Vertices : ℕ → Told
-  Kept : ℕ → ℕ → Told
-  Length : ℕ → Told
+-- what an accepted call reports: the vertices loaded; those kept, with the chords that waited at most; or the
+-- program's length
+pub data Report : Type 0 where
+  Vertices : ℕ → Report
+  Counts : ℕ × ℕ → Report
+  Length : ℕ → Report
 
 -- what a call answers
 abbrev pub Answer : Type 0
-Answer = Result Told Refusal
+Answer = Result Report Refusal
 
--- an answer, told in this way
-abbrev pub told_as : {X : Type 0} → (X → Told) → Result X Refusal → Answer
-told_as tells (Ok x) = Ok (tells x)
-told_as tells (Err e) = Err e
+-- an answer, reported in this way
+abbrev pub report_as : {X : Type 0} → (X → Report) → Result X Refusal → Answer
+report_as report (Ok x) = Ok (report x)
+report_as report (Err e) = Err e
 
--- the two counts of a split
-abbrev pub kept_and_waited : ℕ × ℕ → Told
-kept_and_waited n = Kept n.0 n.1
-
--- what a call leads to: the bench and lists after it, and its answer
-pub record Outcome (P : Type 0) : Type 0 where
-  pub after : State P
+-- what a call leads to: its answer, and the bench and lists after it
+pub record Effect (P : Type 0) : Type 0 where
   pub answer : Answer
-
--- what a call on one list leads to: its answer, the bench, and the list
-abbrev pub Done : Type 0 → Type 0 → Type 0
-Done X L = Result X Refusal × Desk × L
-
--- refused, and nothing changes
-abbrev pub refused : {X L : Type 0} → Why → Desk → L → Done X L
-refused w d list = (Err (refusal_at w 0), d, list)
-
--- what a stage has for a load and a close: that the bench is open
-abbrev pub opened : Stage → Result (Unit {0}) Why
-opened Empty = Ok tt
-opened (Loaded n) = Ok tt
-opened (Split n) = Ok tt
-opened Closed = Err AlreadyClosed
-
--- for a split: the vertex count of a panel
-abbrev pub panel_at : Stage → Result ℕ Why
-panel_at Empty = Err TooEarly
-panel_at (Loaded n) = Ok n
-panel_at (Split n) = Ok n
-panel_at Closed = Err AlreadyClosed
-
--- for a cut: that of a split panel
-abbrev pub split_panel_at : Stage → Result ℕ Why
-split_panel_at Empty = Err TooEarly
-split_panel_at (Loaded n) = Err TooEarly
-split_panel_at (Split n) = Ok n
-split_panel_at Closed = Err AlreadyClosed
+  pub after : State P
 
 -- the vertex count of the panel at a stage, if there is one
 abbrev pub panel_count : Stage → Option ℕ
@@ -108,105 +92,153 @@ panel_count (Loaded n) = Some n
 panel_count (Split n) = Some n
 panel_count Closed = None
 
--- whether a stage has what a call of this name asks for, and the vertex count of its panel, if there is one
-abbrev pub admitted : Stage → Event → Result (Option ℕ) Why
-admitted s event.Load = result_map_both (λ _. panel_count s) (λ w. w) (opened s)
-admitted s event.Split = result_map_both Some (λ w. w) (panel_at s)
-admitted s event.Cut = result_map_both Some (λ w. w) (split_panel_at s)
-admitted s event.Close = result_map_both (λ _. panel_count s) (λ w. w) (opened s)
+-- what a stage gives a call of this name: the vertex count of its panel, if there is one; or why it refuses
+abbrev pub admitted : Stage → Event → Result (Option ℕ) Refusal
+admitted Closed e = refuse AlreadyClosed 0
+admitted Empty event.Split = refuse TooEarly 0
+admitted Empty event.Cut = refuse TooEarly 0
+admitted (Loaded n) event.Cut = refuse TooEarly 0
+admitted stage e = Ok (panel_count stage)
+
+-- what a call on one list leads to: its answer, the bench, and the list
+abbrev pub Done : Type 0 → Type 0 → Type 0
+Done X L = Result X Refusal × Desk × L
+
+-- refused, bench and list stay as they were
+abbrev pub settled : {X L : Type 0} → Desk → L → Result (X × Desk × L) Refusal → Done X L
+settled d list (Ok done) = (Ok done.0, done.1, done.2)
+settled d list (Err e) = (Err e, d, list)
+
+-- done, unless a reason speaks against it
+abbrev pub unless : {X : Type 0} → Option Why → X → Result X Refusal
+unless None x = Ok x
+unless (Some why) x = refuse why 0
 
 -- 8 steps if none is given
 abbrev pub tolerance : Option ℕ → ℕ
 tolerance t = unwrap_or t 8
 
 -- the points whose mark is 1
-abbrev pub kept : {X : Type 0} → List ℕ → List X → List X
-kept [] ps = []
-kept (m ∷ ms) [] = []
-kept (m ∷ ms) (p ∷ ps) = cond (m == 1) (p ∷ kept ms ps) (kept ms ps)
+abbrev pub kept_of : {X : Type 0} → List ℕ → List X → List X
+kept_of [] ps = []
+kept_of (m ∷ ms) [] = []
+kept_of (m ∷ ms) (p ∷ ps) = cond (m == 1) (p ∷ kept_of ms ps) (kept_of ms ps)
 
--- bytes appended to the program
-abbrev pub append : Stage → Desk → List ℕ → List ℕ → Done ℕ (List ℕ)
-append stage d program bytes = (Ok (d.size + length bytes), record { stage = stage; size = d.size + length bytes }, overwritten program d.size bytes)
+-- at such a stage, with these bytes behind the program
+abbrev pub longer : Stage → Desk → List ℕ → List ℕ → ℕ × Desk × List ℕ
+longer stage d program bytes =
+    let end : ℕ = d.length + length bytes in
+    (end, record { stage = stage; length = end }, overwritten program d.length bytes)
 
--- close: the finish is appended, if there is a byte for it
-abbrev pub finished : Desk → List ℕ → Done ℕ (List ℕ)
-finished d program = cond (nat_lt d.size (length program)) (append Closed d program finish) (refused NoSpace d program)
-
--- a close, as the stage has it
-abbrev pub close_at : Result (Unit {0}) Why → Desk → List ℕ → Done ℕ (List ℕ)
-close_at (Ok done) d program = finished d program
-close_at (Err w) d program = refused w d program
+-- close: the finish, if there is a byte for it
+abbrev pub new_finish : Desk → List ℕ → Result (ℕ × Desk × List ℕ) Refusal
+new_finish d program =
+    cond (nat_lt d.length (length program)) (Ok (longer Closed d program finish)) (refuse NoSpace 0)
 
 abbrev pub close_on : Desk → List ℕ → Done ℕ (List ℕ)
-close_on d program = close_at (opened d.stage) d program
+close_on d program =
+    settled d program (and_then (admitted d.stage event.Close) (λ _. new_finish d program))
 
 module _ {P : Type 0} (k : KindMeaning P) where
   -- load: the panel's vertices as placed, at the front of the point list
-  abbrev pub loaded : Result Panel Refusal → Desk → List P → Done ℕ (List P)
-  loaded (Ok x) d points = (Ok x.count, record d { stage = Loaded x.count }, placed k x ++ drop x.count points)
-  loaded (Err e) d points = (Err e, d, points)
+  abbrev pub new_panel : Result Panel Refusal → Desk → List P → Result (ℕ × Desk × List P) Refusal
+  new_panel judgement d points = and_then judgement (λ x.
+      Ok (x.count, record d { stage = Loaded x.count }, placed k x ++ drop x.count points))
 
-  -- a load, as the stage has it
-  abbrev pub load_at : Result (Unit {0}) Why → Result Panel Refusal → Desk → List P → Done ℕ (List P)
-  load_at (Ok done) x d points = loaded x d points
-  load_at (Err w) x d points = refused w d points
-
-  abbrev pub load_on : PredictorMeaning → ReadingMeaning → List ℕ → Desk → List P → Done ℕ (List P)
-  load_on m q file d points = load_at (opened d.stage) (judged m q k.axes (length points) file) d points
+  abbrev pub load_on : Load → Desk → List P → Done ℕ (List P)
+  load_on l d points = settled d points (and_then (admitted d.stage event.Load) (λ _.
+      new_panel (judged l.predictor l.packing k.axes (length points) l.file) d points))
 
   -- split: the marks that the rule gives, and the two counts
-  abbrev pub split_by : Option Why → ℕ → ℕ → Desk → List P → List ℕ → Done (ℕ × ℕ) (List ℕ)
-  split_by (Some w) n t d points marks = refused w d marks
-  split_by None n t d points marks =
+  abbrev pub new_marks :
+      Option Why → ℕ → ℕ → Desk → List P → List ℕ → Result ((ℕ × ℕ) × Desk × List ℕ) Refusal
+  new_marks why n t d points marks =
       let tree = tree_of k t n (take n points) in
-      (Ok (2 + kept_in tree, waits tree), record d { stage = Split n }, marked tree (ends n marks))
-
-  -- a split, as the stage has it
-  abbrev pub split_at : Result ℕ Why → ℕ → Desk → List P → List ℕ → Done (ℕ × ℕ) (List ℕ)
-  split_at (Ok n) t d points marks = split_by (why_not k t n points marks) n t d points marks
-  split_at (Err w) t d points marks = refused w d marks
+      unless why ((2 + kept tree, waits tree), record d { stage = Split n }, marked tree (ends n marks))
 
   abbrev pub split_on : Option ℕ → Desk → List P → List ℕ → Done (ℕ × ℕ) (List ℕ)
-  split_on t d points marks = split_at (panel_at d.stage) (tolerance t) d points marks
+  split_on t d points marks = settled d marks (and_then (admitted d.stage event.Split) (λ count.
+      let n : ℕ = unwrap_or count 0 in
+      new_marks (why_not k (tolerance t) n points marks) n (tolerance t) d points marks))
 
   -- what a cut of n vertices appends: the chain through the points marked 1
   unfoldable pub drawn : ℕ → List P → List ℕ → List ℕ
-  drawn n points marks = chain_bytes (through k (kept (take n marks) (take n points)))
+  drawn n points marks = chain_bytes (through k (kept_of (take n marks) (take n points)))
 
-  -- why a split panel is not cut: the space is that of its chain, and of the finish
+  -- why a split panel is not cut from a program length on: there must be space for the chain, and for the finish
   abbrev pub why_cut : ℕ → ℕ → List P → List ℕ → List ℕ → Option Why
-  why_cut n size points marks program =
+  why_cut n at points marks program =
       cond (short_list n points marks) (Some ShortList)
       (cond (slice_index marks 0 == 1 && slice_index marks (n - 1) == 1)
-      (cond (nat_lt (length program) (size + (ones n marks * (1 + 4 * k.axes) + 2) + 1)) (Some NoSpace) None) (Some Unfit))
+      (cond (nat_le (at + (chain_size (ones n marks) k.axes + 1)) (length program)) None (Some NoSpace))
+      (Some Unfit))
 
-  -- a cut, unless a reason speaks against it
-  abbrev pub cut_by : Option Why → ℕ → Desk → List P → List ℕ → List ℕ → Done ℕ (List ℕ)
-  cut_by (Some w) n d points marks program = refused w d program
-  cut_by None n d points marks program = append (Split n) d program (drawn n points marks)
-
-  -- a cut, as the stage has it
-  abbrev pub cut_at : Result ℕ Why → Desk → List P → List ℕ → List ℕ → Done ℕ (List ℕ)
-  cut_at (Ok n) d points marks program = cut_by (why_cut n d.size points marks program) n d points marks program
-  cut_at (Err w) d points marks program = refused w d program
-
+  -- cut: the chain
   abbrev pub cut_on : Desk → List P → List ℕ → List ℕ → Done ℕ (List ℕ)
-  cut_on d points marks program = cut_at (split_panel_at d.stage) d points marks program
+  cut_on d points marks program = settled d program (and_then (admitted d.stage event.Cut) (λ count.
+      let n : ℕ = unwrap_or count 0 in
+      unless (why_cut n d.length points marks program)
+      (longer d.stage d program (drawn n points marks))))
 
--- what a call did to its list, among all three
-abbrev pub on_points : {P : Type 0} → State P → Done ℕ (List P) → Outcome P
-on_points s done = record { after = record s { desk = done.1; points = done.2 }; answer = told_as Vertices done.0 }
-
-abbrev pub on_marks : {P : Type 0} → State P → Done (ℕ × ℕ) (List ℕ) → Outcome P
-on_marks s done = record { after = record s { desk = done.1; marks = done.2 }; answer = told_as kept_and_waited done.0 }
-
-abbrev pub on_program : {P : Type 0} → State P → Done ℕ (List ℕ) → Outcome P
-on_program s done = record { after = record s { desk = done.1; program = done.2 }; answer = told_as Length done.0 }
+-- what a call on one list leads to among all three, with its report
+abbrev pub effect : {X L P : Type 0} → (X → Report) → (L → Lists P) → Done X L → Effect P
+effect report lists done =
+    record { answer = report_as report done.0; after = record { desk = done.1; lists = lists done.2 } }
 
 -- one call
-abbrev pub step : {P : Type 0} → KindMeaning P → State P → Call → Outcome P
-step k s (load m q file) = on_points s (load_on k m q file s.desk s.points)
-step k s (split t) = on_marks s (split_on k t s.desk s.points s.marks)
-step k s cut = on_program s (cut_on k s.desk s.points s.marks s.program)
-step k s close = on_program s (close_on s.desk s.program)
+abbrev pub step : {P : Type 0} → KindMeaning P → State P → Call → Effect P
+step k s (load l) =
+    effect Vertices (λ points. record s.lists { points = points }) (load_on k l s.desk s.lists.points)
+step k s (split t) =
+    effect Counts (λ marks. record s.lists { marks = marks }) (split_on k t s.desk s.lists.points s.lists.marks)
+step k s cut =
+    effect Length (λ program. record s.lists { program = program })
+    (cut_on k s.desk s.lists.points s.lists.marks s.lists.program)
+step k s close =
+    effect Length (λ program. record s.lists { program = program }) (close_on s.desk s.lists.program)
+
+-- ---- lists of calls on one bench
+
+module _ {P : Type 0} (k : KindMeaning P) where
+  -- each call starts from what those before it left
+  abbrev pub run : State P → List Call → State P
+  run s [] = s
+  run s (c ∷ cs) = run (step k s c).after cs
+
+  -- a call is noted if its answer is no refusal
+  abbrev pub noted : Call → Answer → List Call → List Call
+  noted c (Ok report) cs = c ∷ cs
+  noted c (Err e) cs = cs
+
+  -- the calls that were accepted, in their order
+  abbrev pub accepted : State P → List Call → List Call
+  accepted s [] = []
+  accepted s (c ∷ cs) = noted c (step k s c).answer (accepted (step k s c).after cs)
+
+-- a cut, with the latest load and the tolerance of the latest split before it
+pub record Cut : Type 0 where
+  pub panel : Load
+  pub tolerance : ℕ
+
+-- a cut after such a latest load and split
+abbrev pub cut_of : Option Load → Option ℕ → Option Cut
+cut_of (Some l) (Some t) = Some (record { panel = l; tolerance = t })
+cut_of l t = None
+
+-- the cuts of a list of accepted calls, after such a latest load and split
+abbrev pub cuts_after : Option Load → Option ℕ → List Call → List (Option Cut)
+cuts_after l t [] = []
+cuts_after l t (load new ∷ cs) = cuts_after (Some new) t cs
+cuts_after l t (split new ∷ cs) = cuts_after l (Some (tolerance new)) cs
+cuts_after l t (cut ∷ cs) = cut_of l t ∷ cuts_after l t cs
+cuts_after l t (close ∷ cs) = cuts_after l t cs
+
+-- the cuts of a list of accepted calls on a new bench
+abbrev pub cuts : List Call → List (Option Cut)
+cuts cs = cuts_after None None cs
+
+-- whether a close is among them
+abbrev pub closes : List Call → Bool
+closes [] = false
+closes (close ∷ cs) = true
+closes (c ∷ cs) = closes cs

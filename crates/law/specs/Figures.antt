@@ -9,8 +9,7 @@ use Rattle.predict.specs.Laws as predict
 use Rattle.pack.specs.Packing.{plain, fielded}
 use Rattle.pack.specs.Laws as pack
 use Rattle.seam.specs.Figures as seam
-use Rattle.law.specs.Calls.{Call, load, split, cut, close, State, new}
-use Rattle.law.specs.Runs.{run, accepted}
+use Rattle.law.specs.Calls.{Call, load, load_of, split, cut, close, State, lists_of, new, run, accepted}
 use Rattle.law.specs.Law.{Stored}
 
 -- a range piece: 4 bits, from 0 to 16 mm
@@ -36,8 +35,8 @@ hook =
 -- a cut with no panel, a tolerance of 257 and a cut after the close are refused
 abbrev pub calls : List Call
 calls =
-    cut ∷ load lag1 plain.reading straight ∷ split None ∷ cut
-    ∷ split (Some 257) ∷ load lag1 fielded.reading hook ∷ split None ∷ cut ∷ close ∷ cut ∷ []
+    cut ∷ load (load_of lag1 plain.reading straight) ∷ split None ∷ cut
+    ∷ split (Some 257) ∷ load (load_of lag1 fielded.reading hook) ∷ split None ∷ cut ∷ close ∷ cut ∷ []
 
 -- a flat point
 abbrev pub point : ℕ → ℕ → Flat
@@ -45,7 +44,7 @@ point x y = record { x = pos x; y = pos y }
 
 -- lists with a little more room than is needed
 abbrev pub bench : State Flat
-bench = new (replicate 6 (point 0 0)) (replicate 6 9) (replicate 60 7)
+bench = new (lists_of (replicate 6 (point 0 0)) (replicate 6 9) (replicate 60 7))
 
 -- T 0 0, D, K 256 119, U; then T 0 0, D, K 256 0, K 256 256, K 0 256, U, since (119, 0) lies on its chord; and E
 abbrev pub program : List ℕ
@@ -60,13 +59,14 @@ program =
 
 -- what the calls lead to, and that store writes two files as they were loaded
 pub record Run : Type 0 where
-  pub written : take (run flat bench calls).desk.size (run flat bench calls).program ≡ program
-  pub left : (run flat bench calls).marks ≡ 1 ∷ 0 ∷ 1 ∷ 1 ∷ 1 ∷ 9 ∷ []
+  pub written : let s = run flat bench calls in take s.desk.length s.lists.program ≡ program
+  pub marks : (run flat bench calls).lists.marks ≡ 1 ∷ 0 ∷ 1 ∷ 1 ∷ 1 ∷ 9 ∷ []
   pub went : accepted flat bench calls ≡
-      load lag1 plain.reading straight ∷ split None ∷ cut ∷ load lag1 fielded.reading hook ∷ split None ∷ cut ∷ close ∷ []
+      load (load_of lag1 plain.reading straight) ∷ split None ∷ cut
+      ∷ load (load_of lag1 fielded.reading hook) ∷ split None ∷ cut ∷ close ∷ []
   pub ranges : List Scale
-  pub first : Stored flat (record { predictor = lag1; packing = plain.reading; file = straight }) ranges (point 0 0 ∷ point 4096 2000 ∷ [])
-  pub second : Stored flat (record { predictor = lag1; packing = fielded.reading; file = hook }) ranges
+  pub first : Stored flat (load_of lag1 plain.reading straight) ranges (point 0 0 ∷ point 4096 2000 ∷ [])
+  pub second : Stored flat (load_of lag1 fielded.reading hook) ranges
       (point 0 0 ∷ point 2000 0 ∷ point 4096 0 ∷ point 4096 4096 ∷ point 0 4096 ∷ [])
 
 -- all figures together

@@ -15,8 +15,7 @@ use Rattle.seam.specs.Weight.{from_to, m_of}
 use Rattle.seam.specs.Split.{marked}
 use Rattle.seam.specs.Seam.{ends, tree_of}
 use Rattle.law.specs.Program.{Chain, steps, program_bytes}
-use Rattle.law.specs.Calls.{Call, new, kept}
-use Rattle.law.specs.Runs.{run, accepted, Load, Cut, cuts, closes}
+use Rattle.law.specs.Calls.{Load, Call, Lists, new, kept_of, run, accepted, Cut, cuts, closes}
 
 -- ---- what a program is read as
 
@@ -25,37 +24,39 @@ abbrev pub Steps : ℕ → List ℤ → Type 0
 Steps axes zs = (length zs ≡ axes) × AllByRecursion Word zs
 
 -- a chain is T, D, one or more K, U
-pub record Whole (axes : ℕ) (c : Chain) : Type 0 where
+pub record IsChain (axes : ℕ) (c : Chain) : Type 0 where
   pub travel : Steps axes c.from
   pub some : 1 ≤ length c.strokes
   pub each : AllByRecursion (Steps axes) c.strokes
 
 -- chains, then the finish or not, and nothing else
 pub record Reads (axes : ℕ) (program : List ℕ) (chains : List Chain) (finished : Bool) : Type 0 where
-  pub wholes : AllByRecursion (Whole axes) chains
+  pub each : AllByRecursion (IsChain axes) chains
   pub bytes : program ≡ program_bytes chains finished
 
 -- a program is read in one way at most
 abbrev pub ReadsOnce : Type 0
-ReadsOnce = (axes : ℕ) (program : List ℕ) (cs ds : List Chain) (e f : Bool) → Reads axes program cs e → Reads axes program ds f → (cs ≡ ds) × (e ≡ f)
+ReadsOnce =
+    (axes : ℕ) (program : List ℕ) (cs ds : List Chain) (e f : Bool) →
+    Reads axes program cs e → Reads axes program ds f → (cs ≡ ds) × (e ≡ f)
 
 -- ---- strokes and design vertices
 
--- where stroke number n of a chain begins and ends
-abbrev pub begin_of : Chain → ℕ → List ℤ
-begin_of c n = slice_index_or (c.from ∷ c.strokes) n []
+-- where stroke number n of a chain begins
+abbrev pub stroke_from : Chain → ℕ → List ℤ
+stroke_from c n = slice_index_or (c.from ∷ c.strokes) n []
 
 -- where it ends
-abbrev pub end_of : Chain → ℕ → List ℤ
-end_of c n = slice_index_or c.strokes n []
+abbrev pub stroke_to : Chain → ℕ → List ℤ
+stroke_to c n = slice_index_or c.strokes n []
 
 -- the step on axis j
-abbrev pub on : List ℤ → ℕ → ℤ
-on zs j = slice_index_or zs j (pos 0)
+abbrev pub step_on : List ℤ → ℕ → ℤ
+step_on zs j = slice_index_or zs j (pos 0)
 
--- m of a stroke: the greatest |d|, or 1
-abbrev pub greatest : List ℤ → List ℤ → ℕ
-greatest A B = m_of (from_to (on A) (on B))
+-- m of a stroke
+abbrev pub m_of_stroke : List ℤ → List ℤ → ℕ
+m_of_stroke A B = m_of (from_to (step_on A) (step_on B))
 
 -- the scale of axis j; past the last, one that is never asked for
 abbrev pub scale_on : List Scale → ℕ → Scale
@@ -65,12 +66,14 @@ scale_on gs j = slice_index_or gs j (record { bits = 0; lower = nan; upper = nan
 -- with one k in 0..m, 2 M |m (v - 16 A) - 16 k d| ≤ m (D + 16 M + 32 M t)
 pub record Beside (axes t : ℕ) (gs : List Scale) (v : Vertex) (A B : List ℤ) : Type 0 where
   pub along : ℕ
-  pub short : along ≤ greatest A B
+  pub short : along ≤ m_of_stroke A B
   pub off : (j : ℕ) → j < axes →
       let M : ℕ = quanta (scale_on gs j) in
       let D : ℕ = width (scale_on gs j) in
-      let m : ℕ = greatest A B in
-      2 * M * unsigned_abs (pos m *ℤ (v j -ℤ pos 16 *ℤ on A j) -ℤ pos (16 * along) *ℤ (on B j -ℤ on A j)) ≤ m * (D + 16 * M + 32 * M * t)
+      let m : ℕ = m_of_stroke A B in
+      let d : ℤ = step_on B j -ℤ step_on A j in
+      2 * M * unsigned_abs (pos m *ℤ (v j -ℤ pos 16 *ℤ step_on A j) -ℤ pos (16 * along) *ℤ d)
+      ≤ m * (D + 16 * M + 32 * M * t)
 
 -- one chain for each cut, in the order of the cuts
 abbrev pub Each : (Cut → Chain → Type 0) → List (Option Cut) → List Chain → Type 0
@@ -87,7 +90,7 @@ module _ {P : Type 0} (k : KindMeaning P) where
 
   -- the vertices that a split must keep, as placed and in their order
   unfoldable pub must_keep : ℕ → Panel → List P
-  must_keep t x = kept (marks_of t x) (placed k x)
+  must_keep t x = kept_of (marks_of t x) (placed k x)
 
   -- store, with that load's predictor and packing, writes these design points by these ranges as exactly that load's file
   pub record Stored (l : Load) (gs : List Scale) (design : List P) : Type 0 where
@@ -105,7 +108,7 @@ module _ {P : Type 0} (k : KindMeaning P) where
   -- stroke number n of the chain is one that vertex i of the design is off by little
   pub record ByStroke (t : ℕ) (gs : List Scale) (design : List P) (c : Chain) (i n : ℕ) : Type 0 where
     pub real : n < length c.strokes
-    pub beside : Beside k.axes t gs (at (told k design) i) (begin_of c n) (end_of c n)
+    pub beside : Beside k.axes t gs (at (told k design) i) (stroke_from c n) (stroke_to c n)
 
   -- the panel of a cut's load, where the point list has room for any panel
   abbrev pub Meant : Cut → Panel → Type 0
@@ -119,17 +122,20 @@ module _ {P : Type 0} (k : KindMeaning P) where
 
   -- every design vertex that store wrote as the chain's panel is off a stroke of the chain by little
   abbrev pub Near : Cut → Chain → Type 0
-  Near w c = (gs : List Scale) (design : List P) → Stored w.panel gs design →
+  Near w c =
+      (gs : List Scale) (design : List P) → Stored w.panel gs design →
       (i : ℕ) → i < length design → (n : ℕ) × ByStroke w.tolerance gs design c i n
 
-  -- the chain begins at its panel's first vertex as placed and ends at the last, and such strokes never go back along the vertices
+  -- the chain begins at its panel's first vertex as placed and ends at the last, and such strokes never go back along
+  -- the vertices
   pub record Onward (w : Cut) (c : Chain) : Type 0 where
     pub panel : Panel
     pub meant : Meant w panel
     pub begins : c.from ≡ steps k (vertex k panel 0)
-    pub ends : end_of c (length c.strokes - 1) ≡ steps k (vertex k panel (panel.count - 1))
+    pub ends : stroke_to c (length c.strokes - 1) ≡ steps k (vertex k panel (panel.count - 1))
     pub never_back : (gs : List Scale) (design : List P) → Stored w.panel gs design →
-        (stroke : ℕ → ℕ) × ((i : ℕ) → i < length design → ByStroke w.tolerance gs design c i (stroke i)) × ((i j : ℕ) → i ≤ j → j < length design → stroke i ≤ stroke j)
+        (stroke : ℕ → ℕ) × ((i : ℕ) → i < length design → ByStroke w.tolerance gs design c i (stroke i)) ×
+        ((i j : ℕ) → i ≤ j → j < length design → stroke i ≤ stroke j)
 
   -- A program, after these accepted calls, misplaces no panel:
   pub record MisplacesNone (calls : List Call) (program : List ℕ) : Type 0 where
@@ -145,6 +151,6 @@ module _ {P : Type 0} (k : KindMeaning P) where
   -- Whatever the calls are given, refused ones among them, and whatever the lists hold at first.
   abbrev pub NoRunMisplacesAPanel : Type 0
   NoRunMisplacesAPanel =
-      (points : List P) (marks program : List ℕ) (calls : List Call) →
-      let s = run k (new points marks program) calls in
-      MisplacesNone (accepted k (new points marks program) calls) (take s.desk.size s.program)
+      (lists : Lists P) (calls : List Call) →
+      let s = run k (new lists) calls in
+      MisplacesNone (accepted k (new lists) calls) (take s.desk.length s.lists.program)

@@ -1,8 +1,8 @@
 // The tasks: a store and a cut.
-ghost use Rattle.std.specs.Prelude.{◌≡◌, [], ◌∷◌, length};
+ghost use Rattle.std.specs.Prelude.{◌≡◌, length};
 ghost use Rattle.panel.specs.Stored.{store_of};
-ghost use Rattle.law.specs.Calls.{new as untouched, load as Load, split as Split, cut as CutCall, close as Close, told_as, Length};
-ghost use Rattle.bench.specs.Onward.{seen, onward};
+ghost use Rattle.law.specs.Calls.{load_of, lists_of, report_as, Length};
+ghost use Rattle.bench.specs.Panels.{seen, one_panel};
 
 use crate::Task;
 use bench::cut_panel;
@@ -50,9 +50,9 @@ impl<K: PointKind + Copy> Task for Cut<'_, K> {
     ghost answers = { λ old p q new said. (new.points.ghost_name ≡ old.points.ghost_name) ×
         (new.marks.ghost_name ≡ old.marks.ghost_name) ×
         (new.program.ghost_name ≡ old.program.ghost_name) ×
-        (onward K.kind (untouched old.points.now old.marks.now old.program.now)
-        (Load p q.reading old.file.now) (Split old.tolerance ∷ CutCall ∷ Close ∷ []) ≡
-        seen (told_as Length said) new.points.now new.marks.now new.program.now) };
+        (one_panel K.kind (load_of p q.reading old.file.now) old.tolerance
+        (lists_of old.points.now old.marks.now old.program.now) ≡
+        seen (report_as Length said) (lists_of new.points.now new.marks.now new.program.now)) };
 
     fn run<P: Predictor, Q: Packing>(&mut self) -> Result<usize, Refusal> {
         cut_panel::<K, P, Q>(

@@ -3,7 +3,7 @@
 ghost use Rattle.std.specs.Prelude.{◌≡◌, ◌+◌, ◌*◌, ◌<◌, ◌≤◌, [], ◌∷◌, length, nat_le};
 ghost use Rattle.words.specs.Order.{low_first, spelled};
 ghost use Rattle.law.specs.Program.{steps, travel as travel_bytes, lower as lower_bytes, stroke as stroke_bytes, raise as raise_bytes, finish as finish_bytes};
-ghost use Rattle.bench.specs.Knife.{advanced, begun, answered, written};
+ghost use Rattle.bench.specs.Knife.{answer_for, program_for, answer_of, program_of};
 
 use kinds::PointKind;
 use refusal::Why;
@@ -65,25 +65,25 @@ impl Knife<Raised> {
         program: &mut [u8],
         to: &K,
     ) -> Result<Knife<Raised>, (Why, Knife<Raised>)>
-        ensures answer { result ≡ answered program.old self (travel_bytes (steps K.kind to.now)) }
+        ensures answer { result ≡ answer_of program.old self (travel_bytes (steps K.kind to.now)) }
         ensures program { let bytes = travel_bytes (steps K.kind to.now) in
-            program.new ≡ written program.old self bytes }
+            program.new ≡ program_of program.old self bytes }
     {
         self.write_move(program, TRAVEL, to)
     }
 
     // D
     pub fn lower(self, program: &mut [u8]) -> Result<Knife<Lowered>, (Why, Knife<Raised>)>
-        ensures answer { result ≡ answered program.old self lower_bytes }
-        ensures program { program.new ≡ written program.old self lower_bytes }
+        ensures answer { result ≡ answer_of program.old self lower_bytes }
+        ensures program { program.new ≡ program_of program.old self lower_bytes }
     {
         self.advance(program, LOWER, 1)
     }
 
     // E: the knife ends, and the program length alone is left.
     pub fn finish(self, program: &mut [u8]) -> Result<usize, (Why, Knife<Raised>)>
-        ensures answer { result ≡ answered program.old self finish_bytes }
-        ensures program { program.new ≡ written program.old self finish_bytes }
+        ensures answer { result ≡ answer_of program.old self finish_bytes }
+        ensures program { program.new ≡ program_of program.old self finish_bytes }
     {
         let knife: Knife<Raised> = self.advance(program, FINISH, 1)?;
         Ok(knife.rest())
@@ -97,17 +97,17 @@ impl Knife<Lowered> {
         program: &mut [u8],
         to: &K,
     ) -> Result<Knife<Lowered>, (Why, Knife<Lowered>)>
-        ensures answer { result ≡ answered program.old self (stroke_bytes (steps K.kind to.now)) }
+        ensures answer { result ≡ answer_of program.old self (stroke_bytes (steps K.kind to.now)) }
         ensures program { let bytes = stroke_bytes (steps K.kind to.now) in
-            program.new ≡ written program.old self bytes }
+            program.new ≡ program_of program.old self bytes }
     {
         self.write_move(program, STROKE, to)
     }
 
     // U
     pub fn raise(self, program: &mut [u8]) -> Result<Knife<Raised>, (Why, Knife<Lowered>)>
-        ensures answer { result ≡ answered program.old self raise_bytes }
-        ensures program { program.new ≡ written program.old self raise_bytes }
+        ensures answer { result ≡ answer_of program.old self raise_bytes }
+        ensures program { program.new ≡ program_of program.old self raise_bytes }
     {
         self.advance(program, RAISE, 1)
     }
@@ -124,8 +124,8 @@ impl<S> Knife<S> {
         need: usize,
     ) -> Result<Knife<T>, (Why, Knife<S>)>
         requires { 0 < need }
-        ensures answer { result ≡ advanced program.old self need }
-        ensures program { program.new ≡ begun program.old self need (letter ∷ []) }
+        ensures answer { result ≡ answer_for program.old self need }
+        ensures program { program.new ≡ program_for program.old self need (letter ∷ []) }
     {
         let Knife { at, state } = self;
         if !has_room(program, at, need) {
@@ -146,10 +146,10 @@ impl<S> Knife<S> {
         letter: u8,
         to: &K,
     ) -> Result<Knife<T>, (Why, Knife<S>)>
-        ensures answer { let bytes = letter ∷ spelled low_first (steps K.kind to.now) in
-            result ≡ answered program.old self bytes }
-        ensures program { let bytes = letter ∷ spelled low_first (steps K.kind to.now) in
-            program.new ≡ written program.old self bytes }
+        ensures answer { let bytes = letter ∷ spelled (steps K.kind to.now) in
+            result ≡ answer_of program.old self bytes }
+        ensures program { let bytes = letter ∷ spelled (steps K.kind to.now) in
+            program.new ≡ program_of program.old self bytes }
     {
         let at = self.at;
         let knife: Knife<T> = self.advance(program, letter, move_size::<K>())?;
