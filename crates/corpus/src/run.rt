@@ -2,10 +2,11 @@
 use crate::reader::Reader;
 use anyhow::anyhow;
 use kinds::{Flat, Mould, PointKind};
-use pairing::{Cut, Pairing, Store};
+use pairing::Pairing;
 use range::range::Range;
 use refusal::Refusal;
 use std::alloc::Global;
+use tasks::{Cut, Store};
 
 // A tolerance of a record that stands for none.
 const NONE_GIVEN: u16 = 65535;

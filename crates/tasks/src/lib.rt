@@ -1,13 +1,15 @@
-// The tasks: a store and a cut.
-ghost use Rattle.std.specs.Prelude.{◌≡◌, [], ◌∷◌, length};
-ghost use Rattle.panel.specs.Stored.{store_of};
-ghost use Rattle.law.specs.Calls.{new as untouched, load as Load, split as Split, cut as CutCall, close as Close, told_as, Length};
-ghost use Rattle.bench.specs.Onward.{seen, onward};
+// The tasks that are done under a pairing of predictor and packing: a store and a cut.
+#![tactic(auto)]
 
-use crate::Task;
+ghost use Rattle.std.specs.Prelude.{◌≡◌, length};
+ghost use Rattle.panel.specs.Stored.{store_of};
+ghost use Rattle.law.specs.Calls.{told_as, Length};
+ghost use Rattle.tasks.specs.Cuts.{panel_cut};
+
 use bench::cut_panel;
 use kinds::PointKind;
 use pack::Packing;
+use pairing::Task;
 use panel::store;
 use predict::Predictor;
 use range::range::Range;
@@ -25,6 +27,7 @@ pub struct Store<'a, K> {
 impl<K: PointKind> Task for Store<'_, K> {
     type Output = Result<usize, Refusal>;
 
+    // the list stays the one that was lent
     ghost answers = { λ old p q new said. (new.file.ghost_name ≡ old.file.ghost_name) ×
         ((said, new.file.now) ≡
         store_of K.kind p q old.design.now old.ranges.now (length old.work.now) old.file.now) };
@@ -47,12 +50,14 @@ pub struct Cut<'a, K> {
 impl<K: PointKind + Copy> Task for Cut<'_, K> {
     type Output = Result<usize, Refusal>;
 
+    // the lists stay those that were lent
     ghost answers = { λ old p q new said. (new.points.ghost_name ≡ old.points.ghost_name) ×
         (new.marks.ghost_name ≡ old.marks.ghost_name) ×
         (new.program.ghost_name ≡ old.program.ghost_name) ×
-        (onward K.kind (untouched old.points.now old.marks.now old.program.now)
-        (Load p q.reading old.file.now) (Split old.tolerance ∷ CutCall ∷ Close ∷ []) ≡
-        seen (told_as Length said) new.points.now new.marks.now new.program.now) };
+        (let cut = panel_cut K.kind p q.reading old.tolerance old.file.now
+        old.points.now old.marks.now old.program.now in
+        (told_as Length said ≡ cut.answer) × (new.points.now ≡ cut.points) ×
+        (new.marks.now ≡ cut.marks) × (new.program.now ≡ cut.program)) };
 
     fn run<P: Predictor, Q: Packing>(&mut self) -> Result<usize, Refusal> {
         cut_panel::<K, P, Q>(
