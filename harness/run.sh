@@ -1,14 +1,19 @@
 #!/bin/sh
-# Builds the static library and the harness, compares the library with the plain Rust version, and measures speed and
-# stack. Needs the Rattle kit and rustc; with libboost-dev and libgeos++-dev, their line simplification is timed too.
+# Builds the static library and the harness, calls the library from C by its header, compares it with the plain Rust version,
+# and measures speed and stack. Needs the Rattle kit, gcc and rustc; with libboost-dev and libgeos++-dev, their line simplification is timed too.
 #
 #     sh harness/run.sh             everything
 #     sh harness/run.sh cases 7     only the cases, with the seed 7 (also: speed, stack)
+#     sh harness/run.sh c           only the calls from C
 set -eu
 cd "$(dirname "$0")/.."
 made=target/harness
 sh tools/static_library.sh
 mkdir -p "$made"
+gcc -std=c99 -Wall -Wextra -Werror -pedantic -I crates/controller harness/controller.c -o "$made/controller" \
+    -L target/staticlib -lcontroller
+"$made/controller"
+case "${1:-all}" in c) exit 0 ;; esac
 rustc -O --edition 2021 harness/src/main.rs -o "$made/harness" -L target/staticlib -l static=controller
 "$made/harness" "$@"
 case "${1:-all}" in all | speed) ;; *) exit 0 ;; esac

@@ -1,6 +1,6 @@
 // The structs that cross to C: plain numbers.
 ghost use Rattle.std.specs.Prelude.{◌≡◌};
-ghost use Rattle.controller.specs.Answers.{refused, sized, counted};
+ghost use Rattle.controller.specs.Answers.{refusal_answer, length_answer, split_answer};
 
 use refusal::{Refusal, Why};
 
@@ -17,7 +17,7 @@ pub struct Answer {
 }
 
 impl From<Refusal> for Answer {
-    ghost from_gives = { λ refusal answer. answer ≡ refused refusal.why refusal.place };
+    ghost from_gives = { λ refusal answer. answer ≡ refusal_answer refusal.why refusal.place };
 
     fn from(refusal: Refusal) -> Answer {
         Answer {
@@ -30,7 +30,7 @@ impl From<Refusal> for Answer {
 
 // A refusal that has no place.
 impl From<Why> for Answer {
-    ghost from_gives = { λ why answer. answer ≡ refused why 0 };
+    ghost from_gives = { λ why answer. answer ≡ refusal_answer why 0 };
 
     fn from(why: Why) -> Answer {
         Refusal::from(why).into()
@@ -39,7 +39,7 @@ impl From<Why> for Answer {
 
 // A call that wrote so many bytes.
 impl From<Result<usize, Refusal>> for Answer {
-    ghost from_gives = { λ said answer. answer ≡ sized said };
+    ghost from_gives = { λ said answer. answer ≡ length_answer said };
 
     fn from(said: Result<usize, Refusal>) -> Answer {
         match said {
@@ -54,7 +54,7 @@ impl From<Result<usize, Refusal>> for Answer {
 
 // A split: the kept count and the waiting count.
 impl From<Result<(usize, usize), Why>> for Answer {
-    ghost from_gives = { λ said answer. answer ≡ counted said };
+    ghost from_gives = { λ said answer. answer ≡ split_answer said };
 
     fn from(said: Result<(usize, usize), Why>) -> Answer {
         match said {

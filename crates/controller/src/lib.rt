@@ -2,24 +2,27 @@
 // The crate `controller_c` exports them for each kind.
 #![tactic(auto)]
 
-ghost use Rattle.std.specs.Prelude.{◌≡◌, length};
+ghost use Rattle.std.specs.Prelude.{◌≡◌, ◌-◌, ◌^◌, length, IfOk};
+ghost use Rattle.std.specs.List.{AllByRecursion};
+ghost use Rattle.range.specs.Scale.{IsRange};
 ghost use Rattle.seam.specs.Seam.{split_of};
-ghost use Rattle.controller.specs.Answers.{counted, sized};
-ghost use Rattle.controller.specs.Cuts.{left, given_by, cut_by_numbers};
-ghost use Rattle.controller.specs.Stores.{Stores};
+ghost use Rattle.law.specs.Calls.{lists_of};
+ghost use Rattle.controller.specs.Answers.{cut_answer, length_answer, split_answer};
+ghost use Rattle.controller.specs.Calls.{cut_by_numbers, ranges_in, store_by_numbers, tolerance_given};
 
 pub mod answer;
 mod ranges;
 
 use answer::Answer;
 use kinds::PointKind;
-use pairing::{Cut, Pairing, Store};
+use pairing::Pairing;
 use range::words::Words;
 use ranges::ranges_of;
 use refusal::Refusal;
+use tasks::{Cut, Store};
 
 // The number that stands for no tolerance.
-const NONE_GIVEN: u32 = 0xFFFF_FFFF;
+const NONE_GIVEN: u32 = u32::MAX;
 
 // Cuts one panel file on a new bench: load, split, cut and close. A tolerance of 2^32 - 1 stands for none.
 pub fn cut<K: PointKind + Copy>(
@@ -31,9 +34,18 @@ pub fn cut<K: PointKind + Copy>(
     marks: &mut [u8],
     program: &mut [u8],
 ) -> Answer
-    ensures { left result points.new marks.new program.new ≡
-        cut_by_numbers K.kind predictor packing tolerance file.now
-        points.old marks.old program.old }
+    ensures answer { let lists = lists_of points.old marks.old program.old in
+        let cut = cut_by_numbers K.kind predictor packing tolerance file.now lists in
+        result ≡ cut_answer cut.answer }
+    ensures points { let lists = lists_of points.old marks.old program.old in
+        let cut = cut_by_numbers K.kind predictor packing tolerance file.now lists in
+        points.new ≡ cut.lists.points }
+    ensures marks { let lists = lists_of points.old marks.old program.old in
+        let cut = cut_by_numbers K.kind predictor packing tolerance file.now lists in
+        marks.new ≡ cut.lists.marks }
+    ensures program { let lists = lists_of points.old marks.old program.old in
+        let cut = cut_by_numbers K.kind predictor packing tolerance file.now lists in
+        program.new ≡ cut.lists.program }
 {
     let mut cut = Cut {
         file,
@@ -50,15 +62,17 @@ pub fn cut<K: PointKind + Copy>(
 
 // The tolerance that a number stands for: the greatest stands for none.
 fn given(tolerance: u32) -> Option<u32>
-    ensures { result ≡ given_by tolerance }
+    ensures { result ≡ tolerance_given tolerance }
 {
     (tolerance != NONE_GIVEN).then_some(tolerance)
 }
 
 // Splits the first `count` points and writes their marks.
 pub fn split<K: PointKind>(points: &[K], count: usize, tolerance: u32, marks: &mut [u8]) -> Answer
-    ensures answer { result ≡ counted (split_of K.kind tolerance count points.now marks.old).0 }
-    ensures marks { marks.new ≡ (split_of K.kind tolerance count points.now marks.old).1 }
+    ensures answer { let split = split_of K.kind tolerance count points.now marks.old in
+        result ≡ split_answer split.0 }
+    ensures marks { let split = split_of K.kind tolerance count points.now marks.old in
+        marks.new ≡ split.1 }
 {
     seam::split(points, count, tolerance, marks).into()
 }
@@ -72,8 +86,13 @@ pub fn store<K: PointKind>(
     work: &mut [i32],
     file: &mut [u8],
 ) -> Answer
-    ensures { Stores K.kind predictor packing words design.now (length work.old) file.old
-        (result, file.new) }
+    ensures answer { let stored = store_by_numbers K.kind predictor packing words design.now
+        (length work.old) file.old in
+        result ≡ length_answer stored.0 }
+    ensures file { let stored = store_by_numbers K.kind predictor packing words design.now
+        (length work.old) file.old in
+        file.new ≡ stored.1 }
+    ensures ranges { IfOk (ranges_in words) (AllByRecursion IsRange) }
 {
     stored::<K>(design, predictor, packing, words, work, file).into()
 }
@@ -87,11 +106,13 @@ fn stored<K: PointKind>(
     work: &mut [i32],
     file: &mut [u8],
 ) -> Result<usize, Refusal>
-    ensures { Stores K.kind predictor packing words design.now (length work.old) file.old
-        (sized result, file.new) }
+    ensures stored { (result, file.new) ≡ store_by_numbers K.kind predictor packing words design.now
+        (length work.old) file.old }
+    ensures ranges { IfOk (ranges_in words) (AllByRecursion IsRange) }
 {
+    let ranges = ranges_of(words);
     let pairing = Pairing::new(predictor, packing)?;
-    let ranges = ranges_of(words)?;
+    let ranges = ranges?;
     pairing.run(&mut Store {
         design,
         ranges: &ranges,

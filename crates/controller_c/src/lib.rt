@@ -1,12 +1,14 @@
 // The calls of `controller` for each kind, exported to C: a static library, for which controller.h is the header.
 #![tactic(auto)]
 
-ghost use Rattle.std.specs.Prelude.{◌≡◌, [], ◌∷◌, length};
+ghost use Rattle.std.specs.Prelude.{◌≡◌, [], ◌∷◌, length, IfOk};
+ghost use Rattle.std.specs.List.{AllByRecursion};
 ghost use Rattle.kinds.specs.Models.{flat, mould};
+ghost use Rattle.range.specs.Scale.{IsRange};
 ghost use Rattle.seam.specs.Seam.{split_of};
-ghost use Rattle.controller.specs.Answers.{counted};
-ghost use Rattle.controller.specs.Cuts.{left, cut_by_numbers};
-ghost use Rattle.controller.specs.Stores.{Stores};
+ghost use Rattle.law.specs.Calls.{lists_of};
+ghost use Rattle.controller.specs.Answers.{cut_answer, length_answer, split_answer};
+ghost use Rattle.controller.specs.Calls.{cut_by_numbers, ranges_in, store_by_numbers};
 
 use controller::answer::Answer;
 use kinds::{Flat, Mould};
@@ -23,8 +25,18 @@ pub extern "C" fn loft_cut_flat(
     marks: &mut [u8],
     program: &mut [u8],
 ) -> Answer
-    ensures { left result points.new marks.new program.new ≡
-        cut_by_numbers flat predictor packing tolerance file.now points.old marks.old program.old }
+    ensures answer { let lists = lists_of points.old marks.old program.old in
+        let cut = cut_by_numbers flat predictor packing tolerance file.now lists in
+        result ≡ cut_answer cut.answer }
+    ensures points { let lists = lists_of points.old marks.old program.old in
+        let cut = cut_by_numbers flat predictor packing tolerance file.now lists in
+        points.new ≡ cut.lists.points }
+    ensures marks { let lists = lists_of points.old marks.old program.old in
+        let cut = cut_by_numbers flat predictor packing tolerance file.now lists in
+        marks.new ≡ cut.lists.marks }
+    ensures program { let lists = lists_of points.old marks.old program.old in
+        let cut = cut_by_numbers flat predictor packing tolerance file.now lists in
+        program.new ≡ cut.lists.program }
 {
     controller::cut::<Flat>(file, predictor, packing, tolerance, points, marks, program)
 }
@@ -40,8 +52,18 @@ pub extern "C" fn loft_cut_mould(
     marks: &mut [u8],
     program: &mut [u8],
 ) -> Answer
-    ensures { left result points.new marks.new program.new ≡
-        cut_by_numbers mould predictor packing tolerance file.now points.old marks.old program.old }
+    ensures answer { let lists = lists_of points.old marks.old program.old in
+        let cut = cut_by_numbers mould predictor packing tolerance file.now lists in
+        result ≡ cut_answer cut.answer }
+    ensures points { let lists = lists_of points.old marks.old program.old in
+        let cut = cut_by_numbers mould predictor packing tolerance file.now lists in
+        points.new ≡ cut.lists.points }
+    ensures marks { let lists = lists_of points.old marks.old program.old in
+        let cut = cut_by_numbers mould predictor packing tolerance file.now lists in
+        marks.new ≡ cut.lists.marks }
+    ensures program { let lists = lists_of points.old marks.old program.old in
+        let cut = cut_by_numbers mould predictor packing tolerance file.now lists in
+        program.new ≡ cut.lists.program }
 {
     controller::cut::<Mould>(file, predictor, packing, tolerance, points, marks, program)
 }
@@ -54,8 +76,10 @@ pub extern "C" fn loft_split_flat(
     tolerance: u32,
     marks: &mut [u8],
 ) -> Answer
-    ensures answer { result ≡ counted (split_of flat tolerance count points.now marks.old).0 }
-    ensures marks { marks.new ≡ (split_of flat tolerance count points.now marks.old).1 }
+    ensures answer { let split = split_of flat tolerance count points.now marks.old in
+        result ≡ split_answer split.0 }
+    ensures marks { let split = split_of flat tolerance count points.now marks.old in
+        marks.new ≡ split.1 }
 {
     controller::split::<Flat>(points, count, tolerance, marks)
 }
@@ -68,8 +92,10 @@ pub extern "C" fn loft_split_mould(
     tolerance: u32,
     marks: &mut [u8],
 ) -> Answer
-    ensures answer { result ≡ counted (split_of mould tolerance count points.now marks.old).0 }
-    ensures marks { marks.new ≡ (split_of mould tolerance count points.now marks.old).1 }
+    ensures answer { let split = split_of mould tolerance count points.now marks.old in
+        result ≡ split_answer split.0 }
+    ensures marks { let split = split_of mould tolerance count points.now marks.old in
+        marks.new ≡ split.1 }
 {
     controller::split::<Mould>(points, count, tolerance, marks)
 }
@@ -85,9 +111,16 @@ pub extern "C" fn loft_store_flat(
     work: &mut [i32],
     file: &mut [u8],
 ) -> Answer
-    ensures { let words = x.now ∷ y.now ∷ y.now ∷ [] in
-        Stores flat predictor packing words design.now (length work.old) file.old
-        (result, file.new) }
+    ensures answer { let words = x.now ∷ y.now ∷ y.now ∷ [] in
+        let stored = store_by_numbers flat predictor packing words design.now (length work.old)
+        file.old in
+        result ≡ length_answer stored.0 }
+    ensures file { let words = x.now ∷ y.now ∷ y.now ∷ [] in
+        let stored = store_by_numbers flat predictor packing words design.now (length work.old)
+        file.old in
+        file.new ≡ stored.1 }
+    ensures ranges { let words = x.now ∷ y.now ∷ y.now ∷ [] in
+        IfOk (ranges_in words) (AllByRecursion IsRange) }
 {
     controller::store::<Flat>(design, predictor, packing, [*x, *y, *y], work, file)
 }
@@ -104,9 +137,16 @@ pub extern "C" fn loft_store_mould(
     work: &mut [i32],
     file: &mut [u8],
 ) -> Answer
-    ensures { let words = x.now ∷ y.now ∷ z.now ∷ [] in
-        Stores mould predictor packing words design.now (length work.old) file.old
-        (result, file.new) }
+    ensures answer { let words = x.now ∷ y.now ∷ z.now ∷ [] in
+        let stored = store_by_numbers mould predictor packing words design.now (length work.old)
+        file.old in
+        result ≡ length_answer stored.0 }
+    ensures file { let words = x.now ∷ y.now ∷ z.now ∷ [] in
+        let stored = store_by_numbers mould predictor packing words design.now (length work.old)
+        file.old in
+        file.new ≡ stored.1 }
+    ensures ranges { let words = x.now ∷ y.now ∷ z.now ∷ [] in
+        IfOk (ranges_in words) (AllByRecursion IsRange) }
 {
     controller::store::<Mould>(design, predictor, packing, [*x, *y, *z], work, file)
 }

@@ -3,10 +3,11 @@ use crate::arguments::{Arguments, none};
 use crate::reader::Reader;
 use anyhow::anyhow;
 use kinds::{Flat, Mould, PointKind};
-use pairing::{Cut, Pairing, Store};
+use pairing::Pairing;
 use range::range::Range;
 use refusal::Refusal;
 use std::alloc::Global;
+use tasks::{Cut, Store};
 
 // A point kind of which lists are made and filled.
 pub trait Kind: PointKind + Copy + Clone + Default + Drop {}

@@ -1,20 +1,17 @@
-// Predictor and packing by their numbers: one table for every task that is done under a pairing of the two.
+// Predictors and packings by their names and numbers: one table for every task that is done under a pairing of the two.
 #![tactic(auto)]
 
-ghost use Rattle.std.specs.Prelude.{◌≡◌, IfOk};
-ghost use Rattle.std.specs.Result.{result_err};
+ghost use Rattle.std.specs.Prelude.{◌≡◌};
 ghost use Rattle.predict.specs.Predictor.{PredictorMeaning};
 ghost use Rattle.pack.specs.Packing.{PackingMeaning};
-ghost use Rattle.pairing.specs.Pairings.{predictor_of, packing_of, why_numbers, IsPairingOf};
+ghost use Rattle.pairing.specs.Pairings.{predictor_of, packing_of, pairing_named};
 
 mod names;
-mod tasks;
 
 pub use names::{PackingName, PredictorName};
 use pack::{Fielded, Packing, Plain};
 use predict::{Lag1, Lag2, Null, Predictor, Ramp, Stride1, Stride2, StripIndex, Xor1, Xor2};
 use refusal::Why;
-pub use tasks::{Cut, Store};
 
 // What is to be done under a predictor and a packing.
 pub trait Task {
@@ -37,8 +34,7 @@ pub struct Pairing {
 impl Pairing {
     // The pairing that two numbers name. One that names none is refused, the predictor's first.
     pub fn new(predictor: u8, packing: u8) -> Result<Pairing, Why>
-        ensures why { result_err result ≡ why_numbers predictor packing }
-        ensures named { IfOk result (IsPairingOf predictor packing) }
+        ensures { result ≡ pairing_named predictor packing }
     {
         Ok(Pairing {
             predictor: predictor.try_into()?,

@@ -1,5 +1,6 @@
 // The predictors and packings by name, and the numbers that files and controllers have for them.
-ghost use Rattle.pairing.specs.Pairings.{PredictorNamed, PackingNamed};
+ghost use Rattle.std.specs.Prelude.{◌≡◌};
+ghost use Rattle.pairing.specs.Pairings.{predictor_named, packing_named};
 
 use refusal::Why;
 
@@ -19,7 +20,7 @@ pub enum PredictorName {
 impl TryFrom<u8> for PredictorName {
     type Error = Why;
 
-    ghost try_from_gives = { PredictorNamed };
+    ghost try_from_gives = { λ number result. result ≡ predictor_named number };
 
     fn try_from(number: u8) -> Result<PredictorName, Why> {
         match number {
@@ -46,7 +47,7 @@ pub enum PackingName {
 impl TryFrom<u8> for PackingName {
     type Error = Why;
 
-    ghost try_from_gives = { PackingNamed };
+    ghost try_from_gives = { λ number result. result ≡ packing_named number };
 
     fn try_from(number: u8) -> Result<PackingName, Why> {
         match number {

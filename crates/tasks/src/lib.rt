@@ -1,13 +1,15 @@
-// The tasks: a store and a cut.
+// The tasks that are done under a pairing of predictor and packing: a store and a cut.
+#![tactic(auto)]
+
 ghost use Rattle.std.specs.Prelude.{◌≡◌, length};
 ghost use Rattle.panel.specs.Stored.{store_of};
 ghost use Rattle.law.specs.Calls.{load_of, lists_of, report_as, Length};
-ghost use Rattle.bench.specs.Panels.{seen, one_panel};
+ghost use Rattle.bench.specs.Panels.{one_panel};
 
-use crate::Task;
 use bench::cut_panel;
 use kinds::PointKind;
 use pack::Packing;
+use pairing::Task;
 use panel::store;
 use predict::Predictor;
 use range::range::Range;
@@ -25,6 +27,7 @@ pub struct Store<'a, K> {
 impl<K: PointKind> Task for Store<'_, K> {
     type Output = Result<usize, Refusal>;
 
+    // the list stays the one that was lent
     ghost answers = { λ old p q new said. (new.file.ghost_name ≡ old.file.ghost_name) ×
         ((said, new.file.now) ≡
         store_of K.kind p q old.design.now old.ranges.now (length old.work.now) old.file.now) };
@@ -47,12 +50,14 @@ pub struct Cut<'a, K> {
 impl<K: PointKind + Copy> Task for Cut<'_, K> {
     type Output = Result<usize, Refusal>;
 
+    // the lists stay those that were lent
     ghost answers = { λ old p q new said. (new.points.ghost_name ≡ old.points.ghost_name) ×
         (new.marks.ghost_name ≡ old.marks.ghost_name) ×
         (new.program.ghost_name ≡ old.program.ghost_name) ×
-        (one_panel K.kind (load_of p q.reading old.file.now) old.tolerance
-        (lists_of old.points.now old.marks.now old.program.now) ≡
-        seen (report_as Length said) (lists_of new.points.now new.marks.now new.program.now)) };
+        (let lists = lists_of old.points.now old.marks.now old.program.now in
+        let cut = one_panel K.kind (load_of p q.reading old.file.now) old.tolerance lists in
+        (report_as Length said ≡ cut.answer) ×
+        (lists_of new.points.now new.marks.now new.program.now ≡ cut.lists)) };
 
     fn run<P: Predictor, Q: Packing>(&mut self) -> Result<usize, Refusal> {
         cut_panel::<K, P, Q>(
