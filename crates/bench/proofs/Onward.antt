@@ -5,28 +5,31 @@ use Rattle.refusal.specs.declared.Refusal.{Refusal}
 use Rattle.kinds.specs.Kind.{KindMeaning}
 use Rattle.refusal.specs.Refusals.{and_then}
 use Rattle.law.specs.declared.Event.TheVariants as event
-use Rattle.law.specs.Calls.{Load, Call, load, split, cut, close, Desk, lists_of, State, Effect, Done, fresh, new, admitted, settled, new_finish, close_on, load_on, split_on, cut_on, effect, Vertices, Counts, Length, run, accepted, noted}
+use Rattle.law.specs.Calls.{Load, Call, load, split, cut, close, Desk, lists_of, State, Effect, Done, fresh, admitted, settled, new_finish, close_on, load_on, split_on, cut_on, effect, Vertices, Counts, Length, run, accepted, noted}
 use Rattle.law.specs.Law.{MisplacesNone, NoRunMisplacesAPanel}
 use Rattle.law.proofs.Arms.{err_ok}
 
+abbrev done_of : {X L : Type 0} → Result X Refusal → Desk → L → Done X L
+done_of answer bench list = record { answer = answer; bench = bench; list = list }
+
 -- what a call does to its list, from its parts
-pub joined : {X L : Type 0} (done : Done X L) (r : Result X Refusal) (d : Desk) (list : L) → r ≡ done.0 → d ≡ done.1 → list ≡ done.2 → ◌≡◌ {A = Done X L} (r, d, list) done
+pub joined : {X L : Type 0} (done : Done X L) (r : Result X Refusal) (d : Desk) (list : L) → r ≡ done.answer → d ≡ done.bench → list ≡ done.list → done_of r d list ≡ done
 joined done r d list a b c = rw (a, b, c) refl
 
 -- an accepted close answers the program's length
 module _ (d d' : Desk) (program program' : List ℕ) (n : ℕ) where
   abbrev Tells : Result (ℕ × Desk × List ℕ) Refusal → Type 0
-  Tells r = ◌≡◌ {A = Done ℕ (List ℕ)} (Ok n, d', program') (settled d program r) → d'.length ≡ n
+  Tells r = done_of (Ok n) d' program' ≡ settled d program r → d'.length ≡ n
 
   err-tells : (e : Refusal) → Tells (Err e)
-  err-tells e is = absurd (err_ok (sym (ap (λ (x : Done ℕ (List ℕ)). x.0) is)))
+  err-tells e is = absurd (err_ok (sym (ap (λ (x : Done ℕ (List ℕ)). x.answer) is)))
 
   finish-tells : Tells (new_finish d program)
   finish-tells =
       cond_both (ltb d.length (length program)) _ _ Tells
       (λ _ is.
-      let answers = ap (λ (x : Done ℕ (List ℕ)). x.0) is in
-      let long = ap (λ (x : Done ℕ (List ℕ)). x.1.length) is in
+      let answers = ap (λ (x : Done ℕ (List ℕ)). x.answer) is in
+      let long = ap (λ (x : Done ℕ (List ℕ)). x.bench.length) is in
       cc)
       (λ _. err-tells _)
 
@@ -48,14 +51,14 @@ module _ {P : Type 0} (k : KindMeaning P) (x : Load) (t : Option ℕ) (ps : List
   adds c cs o = noted k c o.answer (accepted k o.after cs)
 
   -- a panel that all four calls accept is placed as the law says
-  module _ (d1 : Desk) (ps1 : List P) (n1 : ℕ) (loads : ◌≡◌ {A = Done ℕ (List P)} (Ok n1, d1, ps1) (load_on k x fresh ps))
-      (d2 : Desk) (ms2 : List ℕ) (n2 : ℕ × ℕ) (splits : ◌≡◌ {A = Done (ℕ × ℕ) (List ℕ)} (Ok n2, d2, ms2) (split_on k t d1 ps1 ms))
-      (d3 : Desk) (bs3 : List ℕ) (n3 : ℕ) (cuts : ◌≡◌ {A = Done ℕ (List ℕ)} (Ok n3, d3, bs3) (cut_on k d2 ps1 ms2 bs))
+  module _ (d1 : Desk) (ps1 : List P) (n1 : ℕ) (loads : done_of (Ok n1) d1 ps1 ≡ (load_on k x fresh ps))
+      (d2 : Desk) (ms2 : List ℕ) (n2 : ℕ × ℕ) (splits : done_of (Ok n2) d2 ms2 ≡ (split_on k t d1 ps1 ms))
+      (d3 : Desk) (bs3 : List ℕ) (n3 : ℕ) (cuts : done_of (Ok n3) d3 bs3 ≡ (cut_on k d2 ps1 ms2 bs))
       (d4 : Desk) (bs4 : List ℕ) where
     abbrev start : State P
     start = at fresh ps ms bs
 
-    module _ (n4 : ℕ) (closes : ◌≡◌ {A = Done ℕ (List ℕ)} (Ok n4, d4, bs4) (close_on d3 bs3)) where
+    module _ (n4 : ℕ) (closes : done_of (Ok n4) d4 bs4 ≡ (close_on d3 bs3)) where
       runs : run k start Calls ≡ at d4 ps1 ms2 bs4
       runs =
           ap (λ done. ran (split t ∷ cut ∷ close ∷ []) (effect Vertices (λ l. lists_of l ms bs) done)) (sym loads)
@@ -70,7 +73,7 @@ module _ {P : Type 0} (k : KindMeaning P) (x : Load) (t : Option ℕ) (ps : List
           ∙ ap (λ done. load x ∷ split t ∷ adds cut (close ∷ []) (effect Length (λ l. lists_of ps1 ms2 l) done)) (sym cuts)
           ∙ ap (λ done. load x ∷ split t ∷ cut ∷ adds close [] (effect Length (λ l. lists_of ps1 ms2 l) done)) (sym closes)
 
-    pub placed : NoRunMisplacesAPanel k → (r : Result ℕ Refusal) → ◌≡◌ {A = Done ℕ (List ℕ)} (r, d4, bs4) (close_on d3 bs3) → IfOk r (λ n. MisplacesNone k Calls (take n bs4))
+    pub placed : NoRunMisplacesAPanel k → (r : Result ℕ Refusal) → done_of r d4 bs4 ≡ (close_on d3 bs3) → IfOk r (λ n. MisplacesNone k Calls (take n bs4))
     placed law (Err e) closes = tt
     placed law (Ok n) closes =
         let Fine : List Call → ℕ → List ℕ → Type 0 = λ calls end program. MisplacesNone k calls (take end program) in

@@ -100,14 +100,16 @@ admitted Empty event.Cut = refuse TooEarly 0
 admitted (Loaded n) event.Cut = refuse TooEarly 0
 admitted stage e = Ok (panel_count stage)
 
--- what a call on one list leads to: its answer, the bench, and the list
-abbrev pub Done : Type 0 → Type 0 → Type 0
-Done X L = Result X Refusal × Desk × L
+-- what a call on one list leads to
+pub record Done (X L : Type 0) : Type 0 where
+  pub answer : Result X Refusal
+  pub bench : Desk
+  pub list : L
 
 -- refused, bench and list stay as they were
 abbrev pub settled : {X L : Type 0} → Desk → L → Result (X × Desk × L) Refusal → Done X L
-settled d list (Ok done) = (Ok done.0, done.1, done.2)
-settled d list (Err e) = (Err e, d, list)
+settled d list (Ok done) = record { answer = Ok done.0; bench = done.1; list = done.2 }
+settled d list (Err e) = record { answer = Err e; bench = d; list = list }
 
 -- done, unless a reason speaks against it
 abbrev pub unless : {X : Type 0} → Option Why → X → Result X Refusal
@@ -182,8 +184,10 @@ module _ {P : Type 0} (k : KindMeaning P) where
 
 -- what a call on one list leads to among all three, with its report
 abbrev pub effect : {X L P : Type 0} → (X → Report) → (L → Lists P) → Done X L → Effect P
-effect report lists done =
-    record { answer = report_as report done.0; after = record { desk = done.1; lists = lists done.2 } }
+effect report lists done = record {
+  answer = report_as report done.answer;
+  after = record { desk = done.bench; lists = lists done.list };
+}
 
 -- one call
 abbrev pub step : {P : Type 0} → KindMeaning P → State P → Call → Effect P
