@@ -14,7 +14,8 @@ use Rattle.law.specs.Law.{Steps, IsChain, Stored, ByStroke, Meant, Through, Near
 use Rattle.law.proofs.Distance.{beside}
 use Rattle.law.proofs.Strokes.{ones-one, ones-grows, length-kept}
 use Rattle.law.proofs.Vertices.{length-placed, at-placed, vertex-tells}
-use Rattle.law.proofs.Judged.{known}
+use Rattle.words.specs.Order.{low_first}
+use Rattle.panel.proofs.Accepted.{accepted as known}
 use Rattle.law.proofs.Steps.{all-kept, all-steps}
 use Rattle.law.proofs.Lies.{length-marks, marks-near, stroke, never-falls, stands, count-strokes, some-strokes, lies_along}
 use lib.Ieee.{nan}
@@ -33,10 +34,10 @@ through-is k (p ∷ ps) h = refl
 
 module _ {P : Type 0} (k : KindMeaning P) (w : Cut) (x : Panel) (meant : Meant k w x) where
   many : 2 ≤ x.count
-  many = (known w.panel.predictor w.panel.packing k.axes 4096 w.panel.file x meant).some
+  many = (known low_first w.panel.predictor w.panel.packing k.axes 4096 w.panel.file x meant).is.counted.0
 
   sized : length x.axes ≡ k.axes
-  sized = (known w.panel.predictor w.panel.packing k.axes 4096 w.panel.file x meant).sized
+  sized = (known low_first w.panel.predictor w.panel.packing k.axes 4096 w.panel.file x meant).is.sized
 
   some-kept : 1 ≤ length (must_keep k w.tolerance x)
   unfolding must_keep

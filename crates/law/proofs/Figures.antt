@@ -8,9 +8,9 @@ use Rattle.range.specs.Scale.{Scale, IsRange}
 use Rattle.range.specs.Units.{good_end, units_of, neg_zero, plain}
 use Rattle.range.specs.Scale.{code_in, place_in}
 use Rattle.panel.specs.Panel.{inside_on, codes_on, axes_from, inside_from}
-use Rattle.panel.specs.Written.{axis_bytes, written}
+use Rattle.panel.specs.Written.{axis_bytes, file_of}
 use Rattle.panel.specs.Faults.{all_codes}
-use Rattle.panel.specs.Judging.{body_at, axis_at, axes_at, judged}
+use Rattle.panel.specs.Judging.{opened, axes_at, panel_at, judged}
 use Rattle.panel.specs.Placed.{place_at, placed}
 use Rattle.seam.specs.Split.{grow, tree}
 use Rattle.seam.specs.Weight.{from_to, m_of, weights_from, weight, limit}
@@ -33,7 +33,7 @@ sixteen-is = record {
 }
 
 pub run : Run
-unfolding sixteen of_bits to_bits good_end units_of neg_zero plain fits code_in place_in int_wrap residues_from values_from inside_on codes_on axes_from inside_from axis_bytes written all_codes body_at axis_at axes_at judged place_at placed grow tree from_to m_of weights_from weight limit pick tree_of chain_bytes drawn
+unfolding sixteen of_bits to_bits good_end units_of neg_zero plain fits code_in place_in int_wrap residues_from values_from inside_on codes_on axes_from inside_from axis_bytes file_of all_codes opened axes_at panel_at judged place_at placed grow tree from_to m_of weights_from weight limit pick tree_of chain_bytes drawn
 run = record {
   written = refl;
   marks = refl;

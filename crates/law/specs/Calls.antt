@@ -7,6 +7,7 @@ use Rattle.refusal.specs.declared.Refusal.{Refusal}
 use Rattle.kinds.specs.Kind.{KindMeaning}
 use Rattle.predict.specs.Predictor.{PredictorMeaning}
 use Rattle.pack.specs.Packing.{ReadingMeaning}
+use Rattle.words.specs.Order.{low_first}
 use Rattle.words.specs.Bytes.{overwritten}
 use Rattle.panel.specs.Panel.{Panel}
 use Rattle.refusal.specs.Refusals.{refuse, and_then}
@@ -29,6 +30,10 @@ pub record Load : Type 0 where
 
 abbrev pub load_of : PredictorMeaning → ReadingMeaning → List ℕ → Load
 load_of m q file = record { predictor = m; packing = q; file = file }
+
+-- what its file means, for a kind of so many axes and a point list of so much room
+abbrev pub meaning_of : Load → ℕ → ℕ → Result Panel Refusal
+meaning_of l axes room = judged low_first l.predictor l.packing axes room l.file
 
 -- a call with its own arguments; a split has a tolerance or none
 pub data Call : Type 0 where
@@ -149,7 +154,7 @@ module _ {P : Type 0} (k : KindMeaning P) where
 
   abbrev pub load_on : Load → Desk → List P → Done ℕ (List P)
   load_on l d points = settled d points (and_then (admitted d.stage event.Load) (λ _.
-      new_panel (judged l.predictor l.packing k.axes (length points) l.file) d points))
+      new_panel (meaning_of l k.axes (length points)) d points))
 
   -- split: the marks that the rule gives, and the two counts
   abbrev pub new_marks :

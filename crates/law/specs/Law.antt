@@ -8,14 +8,13 @@ use Rattle.words.specs.Numbers.{Word}
 use Rattle.pack.specs.Packing.{PackingMeaning}
 use Rattle.range.specs.Scale.{Scale, IsRange, quanta, width}
 use Rattle.panel.specs.Panel.{Panel}
-use Rattle.panel.specs.Judging.{judged}
 use Rattle.panel.specs.Placed.{vertex, placed}
 use Rattle.panel.specs.Stored.{Outcome as StoreOutcome, store_of}
 use Rattle.seam.specs.Weight.{from_to, m_of}
 use Rattle.seam.specs.Split.{marked}
 use Rattle.seam.specs.Seam.{ends, tree_of}
 use Rattle.law.specs.Program.{Chain, steps, program_bytes}
-use Rattle.law.specs.Calls.{Load, Call, Lists, new, kept_of, run, accepted, Cut, cuts, closes}
+use Rattle.law.specs.Calls.{meaning_of, Load, Call, Lists, new, kept_of, run, accepted, Cut, cuts, closes}
 
 -- ---- what a program is read as
 
@@ -112,7 +111,7 @@ module _ {P : Type 0} (k : KindMeaning P) where
 
   -- the panel of a cut's load, where the point list has room for any panel
   abbrev pub Meant : Cut → Panel → Type 0
-  Meant w x = judged w.panel.predictor w.panel.packing k.axes 4096 w.panel.file ≡ Ok x
+  Meant w x = meaning_of w.panel k.axes 4096 ≡ Ok x
 
   -- the chain goes through just the vertices that its split must keep, as placed and in their order
   pub record Through (w : Cut) (c : Chain) : Type 0 where
