@@ -54,5 +54,5 @@ module _ {P : Type 0} (k : KindMeaning P) (ps : List P) where
   inside_all a (y ∷ gs) (suc j) g h e = let n : a + suc j ≡ a + 1 + j = omega arith in rw n (inside_all (a + 1) gs j g (omega arith) (and_parts _ _ e).1)
 
   -- the points lie in the range of each axis
-  pub inside_each : (gs : List Scale) (j : ℕ) (g : Scale) → j < length gs → inside_from k ps 0 gs ≡ true → inside_on k j (get_or gs j g) ps ≡ true
-  inside_each gs j g h e = let n : 0 + j ≡ j = omega arith in rw n at (inside_all 0 gs j g h e)
+  pub inside_each : (gs : List Scale) (j : ℕ) (g : Scale) → j < length gs → g ≡ get_or gs j g → inside_from k ps 0 gs ≡ true → inside_on k j g ps ≡ true
+  inside_each gs j g h is e = let n : 0 + j ≡ j = omega arith in ap (λ r. inside_on k j r ps) is ∙ (rw n at (inside_all 0 gs j g h e))

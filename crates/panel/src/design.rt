@@ -50,7 +50,6 @@ pub(crate) fn are_inside<K: PointKind>(points: &[K], ranges: &[Range]) -> bool
 
 impl<'a, K: PointKind> Design<'a, K> {
     // Writes the file to the front of `file`, if it has room, and answers its length; what follows stays.
-    #[tactic(auto, unfolding(crate::specs::Written::file_of))]
     pub(crate) fn store<O: ByteOrder, P: Predictor, Q: Packing>(
         &self,
         work: &mut [i32],
@@ -71,7 +70,6 @@ impl<'a, K: PointKind> Design<'a, K> {
     }
 
     // How many bytes the file takes.
-    #[tactic(auto, unfolding(crate::specs::Written::file_of))]
     fn file_length<O: ByteOrder, P: Predictor, Q: Packing>(&self, work: &mut [i32]) -> usize
         requires { length work.old ≡ length self.now.points.now }
         ensures size { let panel = panel_on K.kind self.now.ranges.now self.now.points.now in

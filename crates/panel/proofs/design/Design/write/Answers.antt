@@ -21,9 +21,7 @@ put-requires g c =
 pub fill-requires-clause-inside : goal.fill-requires-clause-inside
 fill-requires-clause-inside g c =
     let s = c.args.self.now in
-    let k = g.K.PointKind.kind in
-    ap (λ r. inside_on k c.loop-axis.axis r s.points.now) c.range-item.is
-    ∙ inside_each k s.points.now s.ranges.now c.loop-axis.axis c.range-item.result c.loop-axis-test.true s.inside
+    inside_each g.K.PointKind.kind s.points.now s.ranges.now c.loop-axis.axis c.range-item.result c.loop-axis-test.true c.range-item.is s.inside
 
 pub write_axis-at-requires-clause-space : goal.write_axis-at-requires-clause-space
 write_axis-at-requires-clause-space g c =
