@@ -1,5 +1,5 @@
-use Rattle.std.proofs.Common.{length, sym, ap, ◌∙◌, arith}
-use Rattle.panel.specs.Panel.{inside_on, panel_on}
+use Rattle.std.proofs.Common.{length, ap, arith}
+use Rattle.panel.specs.Panel.{panel_on}
 use Rattle.panel.proofs.Axes.{inside_each, length_file, length_next, rest_end}
 use Rattle.panel.proofs.design.Design.file_length.Goals as goal
 
