@@ -1,5 +1,5 @@
 -- What is known of the panel of an accepted file, and of the refusal of any other.
-use Rattle.std.proofs.Common.{◌≡◌, ℕ, zero, suc, ◌+◌, ◌^◌, ◌<◌, ◌≤◌, Bool, true, false, not, List, [], ◌∷◌, length, ℤ, Ok, Err, Result, leb, sym, refl, ap, ◌∙◌, ap₂, subst, ⊎_elim, arith, lit≤}
+use Rattle.std.proofs.Common.{◌≡◌, ℕ, zero, suc, ◌^◌, ◌<◌, ◌≤◌, true, List, [], ◌∷◌, length, ℤ, Ok, Err, Result, leb, sym, refl, ap, ◌∙◌, ap₂, subst, ⊎_elim, arith, lit≤}
 use lib.Ieee.{Float, nan, inf, fin, binary32, fits, of_bits}
 use lib.Ieee.Bits.{of_bits-fits, is_true as holds}
 use lib.Signed.{lt_z}
@@ -28,7 +28,7 @@ use Rattle.range.proofs.Ranges.{code-nat, quanta-small}
 use Rattle.panel.specs.Layout.{Rest, rest_at, past, Layout, header_piece, range_piece, length_piece, end_piece}
 use Rattle.panel.specs.Panel.{Axis, Panel}
 use Rattle.panel.specs.Faults.{Fault, unless, piece_faults, header_faults, range_faults, cut_short, all_codes, code_faults, trailing_faults}
-use Rattle.panel.specs.Judging.{taken, bytes_taken, end_at, nothing_follows, scale_at, body_at, Opened, opened, coded, with_axis, head_at, axis_at, axes_at, panel_at, judged}
+use Rattle.panel.specs.Judging.{taken, bytes_taken, end_at, nothing_follows, scale_at, body_at, Opened, opened, with_axis, head_at, axis_at, axes_at, panel_at, judged}
 use Rattle.panel.proofs.Faults.{NoneFound, is_count, unless_none, then_ok}
 
 -- an axis of a panel of n vertices
@@ -152,8 +152,7 @@ module _ (o : Order) (m : PredictorMeaning) (q : ReadingMeaning) where
     head_holds : (r : Rest) → Holds (Headed r) (head_at o m q axes room r)
     head_holds r =
         then_holds _ (Headed r) (taken (header_piece o) r) _ (taken_holds (header_piece o) r) (λ h was past.
-        unless_holds (Headed r) (header_faults m q axes room h.0 r.at) _ (refl, (refl, (refl, (refl, (refl, tt))))) (λ none.
-        (
+        unless_holds (Headed r) (header_faults m q axes room h.0 r.at) _ (refl, (refl, (refl, (refl, (refl, tt))))) (λ none. (
           is_count h.0.count none.1.1.1.0,
           ltb-false _ _ none.1.1.1.1.0,
           past,

@@ -1,20 +1,19 @@
 -- The axes of a panel one after another, and their pieces.
-use Rattle.std.proofs.Common.{◌≡◌, ℕ, zero, suc, ◌+◌, ◌<◌, ◌≤◌, true, List, [], ◌∷◌, ◌++◌, length, get_or, drop, ℤ, sym, ap, ◌∙◌, ap₂, append_assoc, arith, length-append}
-use Rattle.std.specs.List.{flat_map}
-use Rattle.std.proofs.lemmas.Bool.{and_parts}
-use Rattle.std.proofs.lemmas.List.{drop_all}
+use Rattle.std.proofs.Common.{◌≡◌, ℕ, ◌+◌, ◌<◌, ◌≤◌, true, List, ◌++◌, length, get_or, drop, ℤ, sym, ap, ◌∙◌, append_assoc, arith, length-append}
+use Rattle.std.specs.List.{flat_map, enumerate_from}
+use Rattle.std.proofs.lemmas.List.{drop_all, get_or-map}
+use Rattle.std.proofs.lemmas.List.FromFn.{length-enumerate_from, get_or-enumerate_from}
 use Rattle.words.specs.Order.{Order}
-use Rattle.words.specs.Bytes.{overwritten}
 use Rattle.kinds.specs.Kind.{KindMeaning}
 use Rattle.predict.specs.Predictor.{PredictorMeaning}
 use Rattle.predict.specs.Residues.{residues}
 use Rattle.pack.specs.Packing.{PackingMeaning}
 use Rattle.range.specs.Scale.{Scale, in_words}
 use Rattle.panel.specs.Layout.{piece_bytes, end_piece, range_piece, length_piece}
-use Rattle.panel.specs.Panel.{Panel, codes_on, inside_on, inside_from, axes_from}
+use Rattle.panel.specs.Panel.{Axis, Panel, axis_on, codes_on, inside_on, inside_from, axes_from}
 use Rattle.panel.specs.Written.{axis_bytes, rest_bytes, stored_axis, file_of}
 use Rattle.panel.proofs.PieceBack.{range_sized, length_sized}
-use Rattle.panel.proofs.Points.{drop_is}
+use Rattle.panel.proofs.Points.{drop_is, all_at}
 
 pub length_stored : (o : Order) (q : PackingMeaning) (s : Scale) (list : List ℤ) → length (stored_axis o q s list) ≡ 15 + q.size list
 length_stored o q s list =
@@ -46,13 +45,21 @@ module _ (o : Order) (m : PredictorMeaning) (q : PackingMeaning) where
       pub length_next : length (rest_bytes o m q (axes_from k ps i (drop i gs))) ≡ 15 + q.size work + length (rest_bytes o m q (axes_from k ps (i + 1) (drop (i + 1) gs)))
       length_next = ap length rest_next ∙ length-append (stored_axis o q g work) _ ∙ ap (λ n. n + length (rest_bytes o m q (axes_from k ps (i + 1) (drop (i + 1) gs)))) (length_stored o q g work)
 
-module _ {P : Type 0} (k : KindMeaning P) (ps : List P) where
-  inside_all : (a : ℕ) (gs : List Scale) (j : ℕ) (g : Scale) → j < length gs → inside_from k ps a gs ≡ true → inside_on k (a + j) (get_or gs j g) ps ≡ true
-  unfolding inside_from
-  inside_all a [] j g h e = absurd (omega arith)
-  inside_all a (y ∷ gs) zero g h e = let n : a + 0 ≡ a = omega arith in rw n (and_parts _ _ e).0
-  inside_all a (y ∷ gs) (suc j) g h e = let n : a + suc j ≡ a + 1 + j = omega arith in rw n (inside_all (a + 1) gs j g (omega arith) (and_parts _ _ e).1)
+module _ {P : Type 0} (k : KindMeaning P) (ps : List P) (gs : List Scale) (j : ℕ) (g : Scale) (lt : j < length gs) where
+  counted : get_or (enumerate_from 0 gs) j (0, g) ≡ (j, get_or gs j g)
+  counted = let n : 0 + j ≡ j = omega arith in get_or-enumerate_from 0 gs j (0, g) lt ∙ ap (λ a. (a, get_or gs j g)) n
+
+  from_start : j < length (enumerate_from 0 gs)
+  from_start = omega (arith, length-enumerate_from 0 gs)
+
+  -- axis j has the codes of the points by range j
+  pub axis_is : (x : Axis) → get_or (axes_from k ps 0 gs) j x ≡ axis_on k ps j (get_or gs j g)
+  unfolding axes_from
+  axis_is x = get_or-map (λ y. axis_on k ps y.0 y.1) (enumerate_from 0 gs) j (0, g) x from_start ∙ ap (λ y. axis_on k ps y.0 y.1) counted
 
   -- the points lie in the range of each axis
-  pub inside_each : (gs : List Scale) (j : ℕ) (g : Scale) → j < length gs → inside_from k ps 0 gs ≡ true → inside_on k j (get_or gs j g) ps ≡ true
-  inside_each gs j g h e = let n : 0 + j ≡ j = omega arith in rw n at (inside_all 0 gs j g h e)
+  pub inside_each : g ≡ get_or gs j g → inside_from k ps 0 gs ≡ true → inside_on k j g ps ≡ true
+  unfolding inside_from
+  inside_each is all =
+      ap (λ r. inside_on k j r ps) is ∙ sym (ap (λ y. inside_on k y.0 y.1 ps) counted)
+      ∙ all_at (λ y. inside_on k y.0 y.1 ps) (enumerate_from 0 gs) j (0, g) from_start all

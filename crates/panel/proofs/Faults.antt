@@ -1,5 +1,5 @@
 -- Steps and faults: what an answer tells that is no refusal.
-use Rattle.std.proofs.Common.{◌≡◌, ℕ, true, false, not, List, [], ◌∷◌, Ok, Err, Result, sym, refl, ap, ◌∙◌, true≢false, is_ok}
+use Rattle.std.proofs.Common.{◌≡◌, ℕ, false, not, List, [], ◌∷◌, Ok, Err, Result, sym, refl, ap, ◌∙◌, true≢false, is_ok}
 use Rattle.std.specs.List.{AllByRecursion}
 use Rattle.std.proofs.lemmas.Bool.{cond-false, cond_both, and_parts, not-false, leb-true}
 use Rattle.kinds.specs.Count.{IsVertexCount, is_vertex_count}

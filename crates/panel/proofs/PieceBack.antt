@@ -1,10 +1,10 @@
 -- A piece that is written is taken back.
-use Rattle.std.proofs.Common.{◌≡◌, ℕ, suc, ◌+◌, ◌^◌, ◌<◌, ◌≤◌, List, [], ◌∷◌, ◌++◌, length, take, drop, Ok, not, refl, ap, ◌∙◌, ap₂, append_assoc, arith, length-append}
+use Rattle.std.proofs.Common.{◌≡◌, ℕ, ◌+◌, ◌^◌, ◌<◌, ◌≤◌, List, [], ◌∷◌, ◌++◌, length, take, Ok, not, refl, ap, ◌∙◌, ap₂, append_assoc, arith, length-append}
 use Rattle.std.proofs.lemmas.List.{take_at, drop_at}
 use Rattle.std.proofs.lemmas.Bool.{le-ltb, eq-eqb}
 use Rattle.words.specs.Order.{Order, word_at}
 use Rattle.range.specs.declared.words.Words.{Words}
-use Rattle.panel.specs.Layout.{Rest, Layout, Header, piece_bytes, past, header_piece, range_piece, length_piece, end_piece}
+use Rattle.panel.specs.Layout.{Rest, Layout, Header, piece_bytes, header_piece, range_piece, length_piece, end_piece}
 use Rattle.panel.specs.Faults.{piece_faults}
 use Rattle.panel.specs.Judging.{taken}
 use Rattle.panel.proofs.Faults.{unless_none}

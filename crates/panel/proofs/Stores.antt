@@ -1,12 +1,12 @@
 -- What an accepted store tells of its design points, and that its file means their panel.
-use Rattle.std.proofs.Common.{◌≡◌, ℕ, true, List, ◌++◌, length, take, drop, Ok, Err, Result, sym, refl, ap, ◌∙◌}
+use Rattle.std.proofs.Common.{◌≡◌, ℕ, List, length, take, drop, Ok, Err, Result, sym, refl, ap, ◌∙◌}
 use Rattle.std.specs.Prelude.{is_ok}
 use Rattle.std.proofs.lemmas.List.{take_at}
 use Rattle.std.proofs.lemmas.Bool.{not-false, false≢true}
 use Rattle.refusal.specs.declared.Refusal.{Refusal}
 use Rattle.kinds.specs.Kind.{KindMeaning}
 use Rattle.words.specs.Order.{low_first}
-use Rattle.panel.specs.Panel.{panel_of, all_inside}
+use Rattle.panel.specs.Panel.{panel_of}
 use Rattle.panel.specs.Written.{file_of}
 use Rattle.panel.specs.Faults.{unless}
 use Rattle.panel.specs.Stored.{Outcome, filed, space_faults, design_faults}

@@ -1,4 +1,4 @@
-use Rattle.std.proofs.Common.{ℕ, ◌+◌, ◌-◌, List, length, drop, sym, ap, ap₂, ◌∙◌, arith}
+use Rattle.std.proofs.Common.{ℕ, ◌+◌, List, length, drop, sym, ap, ap₂, ◌∙◌, arith}
 use Rattle.words.specs.Bytes.{overwritten}
 use Rattle.range.specs.Scale.{in_words}
 use Rattle.panel.specs.Layout.{piece_bytes, range_piece, length_piece}

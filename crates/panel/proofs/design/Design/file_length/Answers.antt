@@ -1,21 +1,7 @@
-use Rattle.std.proofs.Common.{length, sym, ap, ◌∙◌, arith}
-use Rattle.panel.specs.Panel.{inside_on, panel_on}
+use Rattle.std.proofs.Common.{length, ap, arith}
+use Rattle.panel.specs.Panel.{panel_on}
 use Rattle.panel.proofs.Axes.{inside_each, length_file, length_next, rest_end}
 use Rattle.panel.proofs.design.Design.file_length.Goals as goal
-
-pub fill-requires-clause-inside : goal.fill-requires-clause-inside
-fill-requires-clause-inside g c =
-    let s = c.args.self.now in
-    let k = g.K.PointKind.kind in
-    ap (λ r. inside_on k c.loop-axis.axis r s.points.now) c.range-item.is
-    ∙ inside_each k s.points.now s.ranges.now c.loop-axis.axis c.range-item.result c.loop-axis-test.true s.inside
-
-pub loop-axis-preserved : goal.loop-axis-preserved
-loop-axis-preserved g c =
-    let s = c.args.self.now in
-    let next = length_next g.O.ByteOrder.order g.P.Predictor.means g.Q.Packing.means g.K.PointKind.kind s.points.now s.ranges.now c.loop-axis.axis
-    c.range-item.result c.fill.new.work c.loop-axis-test.true c.range-item.is c.fill.ensures in
-    record { counted = omega (arith, next); short = omega (arith, s.counted.1) }
 
 pub returns : goal.returns
 returns g c =

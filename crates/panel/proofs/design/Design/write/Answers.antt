@@ -1,29 +1,12 @@
-use Rattle.std.proofs.Common.{◌≡◌, ℕ, ◌+◌, List, ◌++◌, length, drop, set, sym, ap, ◌∙◌, arith}
+use Rattle.std.proofs.Common.{◌≡◌, ℕ, ◌+◌, List, ◌++◌, length, drop, sym, ap, ◌∙◌, arith}
 use Rattle.words.specs.Bytes.{overwritten}
-use Rattle.panel.specs.Layout.{Header, piece_bytes, header_piece}
-use Rattle.panel.specs.Panel.{inside_on, axes_from, panel_on}
+use Rattle.panel.specs.Layout.{piece_bytes, header_piece}
+use Rattle.panel.specs.Panel.{axes_from, panel_on}
 use Rattle.panel.specs.Written.{rest_bytes, stored_axis, file_of}
 use Rattle.panel.proofs.Axes.{inside_each, length_file, length_stored, length_next, rest_next, rest_end}
 use Rattle.panel.proofs.Overwriting.{over-more, over-one}
 use Rattle.panel.proofs.Sound.{length-axes}
 use Rattle.panel.proofs.design.Design.write.Goals as goal
-
-pub put-requires : goal.put-requires
-put-requires g c =
-    let s = c.args.self.now in
-    omega (
-      arith,
-      length_file g.O.ByteOrder.order g.P.Predictor.means g.Q.Packing.means (panel_on g.K.PointKind.kind s.ranges.now s.points.now),
-      ap length c.head_piece-head.ensures,
-      g.O.ByteOrder.order.four (length s.points.now),
-    )
-
-pub fill-requires-clause-inside : goal.fill-requires-clause-inside
-fill-requires-clause-inside g c =
-    let s = c.args.self.now in
-    let k = g.K.PointKind.kind in
-    ap (λ r. inside_on k c.loop-axis.axis r s.points.now) c.range-item.is
-    ∙ inside_each k s.points.now s.ranges.now c.loop-axis.axis c.range-item.result c.loop-axis-test.true s.inside
 
 pub write_axis-at-requires-clause-space : goal.write_axis-at-requires-clause-space
 write_axis-at-requires-clause-space g c =
