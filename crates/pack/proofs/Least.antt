@@ -7,8 +7,8 @@ use Rattle.std.proofs.lemmas.Int.Digits.{length-digits_of-le}
 use Rattle.std.specs.List.{All, Contains}
 use Rattle.std.proofs.lemmas.Int.{ints, fold-int_min_reached}
 use Rattle.std.proofs.lemmas.List.Elements.{All-contains, All-from_recursion, recursion_from_All}
-use Rattle.pack.specs.Fields.{least, greatest, width_of}
-use Rattle.pack.specs.Fielded.{least-low, under-greatest, under-width}
+use Rattle.bodies.specs.Fields.{least, greatest, width_of}
+use Rattle.bodies.proofs.Fielded.{least_low, holds}
 
 greatest-under : (fs : List ℕ) (m : ℕ) → 0 < m → AllBelowBase m fs → greatest fs < m
 greatest-under [] m h all = h
@@ -28,16 +28,12 @@ least-in (x ∷ xs) h = elim (fold-int_min_reached x xs (fold int_min x xs) refl
 pub least_is : (xs : List ℤ) (m : ℤ) → All (λ x. m ≤ℤ x) xs → Contains xs m → m ≡ least xs
 least_is xs m low has =
     let under = All-contains (λ x. m ≤ℤ x) xs (least xs) low (least-in xs (omega (arith, has.1))) in
-    let over = All-contains (λ x. least xs ≤ℤ x) xs m (All-from_recursion _ xs (least-low xs)) has in
+    let over = All-contains (λ x. least xs ≤ℤ x) xs m (All-from_recursion _ xs (least_low xs)) has in
     omega (arith, ints)
 
 -- the width of the greatest of some fields
 pub width_by : (fs : List ℕ) (most w : ℕ) → All (λ f. f ≤ most) fs → Contains fs most → most < 2 ^ w → ((v : ℕ) → most < 2 ^ v → w ≤ v) → w ≡ width_of fs
-width_by fs most w bound has holds smallest =
-    let up : w ≤ width_of fs = smallest (width_of fs) (All-contains (λ f. f < 2 ^ width_of fs) fs most (All-from_recursion _ fs (under-greatest fs _ (under-width (greatest fs)))) has) in
+width_by fs most w bound has under smallest =
+    let up : w ≤ width_of fs = smallest (width_of fs) (All-contains (λ f. f < 2 ^ width_of fs) fs most (All-from_recursion _ fs (holds fs)) has) in
     let down : width_of fs ≤ w = width-least fs w (recursion_from_All (λ f. f < 2 ^ w) fs (λ i d l. let b = bound i d l in omega arith)) in
     omega arith
-
--- the width of some fields holds each of them
-pub holds : (fs : List ℕ) (w : ℕ) → w ≡ width_of fs → AllBelowBase (2 ^ w) fs
-holds fs w e = subst (λ (v : ℕ). AllBelowBase (2 ^ v) fs) (sym e) (under-greatest fs _ (under-width (greatest fs)))

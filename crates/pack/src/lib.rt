@@ -1,21 +1,21 @@
 // Packings: a list of 32-bit numbers as the bytes of a file, and back.
 #![tactic(auto)]
 
-ghost use Rattle.std.specs.Prelude.{◌≡◌, ℕ, ◌+◌, ◌-◌, ◌*◌, ◌/◌, ◌%◌, ◌^◌, ◌<◌, ◌≤◌, ◌∷◌, ◌++◌, map, length, drop, All, Contains, IfOk, IfErr, ◌≤ℤ◌, refl};
+ghost use Rattle.std.specs.Prelude.{◌≡◌, ℕ, ◌+◌, ◌-◌, ◌*◌, ◌/◌, ◌%◌, ◌^◌, ◌<◌, ◌≤◌, [], ◌∷◌, ◌++◌, map, length, drop, All, Contains, pos, slice_index_or, Ok, IsOk, IfOk, IfErr, ◌≤ℤ◌, refl};
+ghost use Rattle.std.specs.Result.{result_and, result_unwrap_or};
 ghost use Rattle.std.specs.Int.Digits.{number_from_digits, AllBelowBase};
 ghost use Rattle.kinds.specs.Count.{IsVertexCount};
 ghost use Rattle.refusal.specs.declared.Why.TheVariants.{BodyLength};
-ghost use Rattle.pack.specs.Packing.{ReadingMeaning, PackingMeaning, Accepted, verdict, entry as Entry};
-ghost use Rattle.pack.specs.Plain.{plain, le_bytes};
-ghost use Rattle.pack.specs.Fields.{least, gap, width_of, room, spare, laid, fielded_writes};
-ghost use Rattle.pack.specs.Fielded.{fielded};
-ghost use Rattle.pack.specs.Laws.{HighFirst, OnlyPacked};
-ghost use Rattle.pack.specs.Figures.{Figures};
+ghost use Rattle.words.specs.Order.{bytes_of};
+ghost use Rattle.pack.specs.Packing.{ReadingMeaning, PackingMeaning, plain, fielded};
+ghost use Rattle.bodies.specs.Fields.{least, gap, width_of, fields_size, spare, laid, fielded_size};
+ghost use Rattle.pack.specs.Laws.{HighFirst, OnlyPacked, Figures};
 
 use kinds::{MOST_VERTICES, VertexCount};
 use refusal::Why;
+use words::ByteOrder;
 
-// A packing, to a reader: what a body of bytes means.
+// A packing, to a reader: what a body of bytes means under a byte order.
 pub trait Unpacking {
     const NUMBER: u8;
 
@@ -24,14 +24,15 @@ pub trait Unpacking {
     ghost reading: { ReadingMeaning };
 
     // Whether the body is one of `n` entries.
-    fn judge(body: &[u8], n: VertexCount) -> Result<(), Why>
-        ensures { result ≡ verdict (reading.reads n body.now) };
+    fn judge<O: ByteOrder>(body: &[u8], n: VertexCount) -> Result<(), Why>
+        ensures { result ≡ result_and (reading.reads O.order n body.now) (Ok tt) };
 
     // Entry `i` of a body that was accepted.
-    fn entry(body: &[u8], n: VertexCount, i: usize) -> i32
+    fn entry<O: ByteOrder>(body: &[u8], n: VertexCount, i: usize) -> i32
         requires due { i < n }
-        requires accepted { Accepted (reading.reads n body.now) }
-        ensures { result ≡ Entry (reading.reads n body.now) i };
+        requires accepted { IsOk (reading.reads O.order n body.now) }
+        ensures { let list = result_unwrap_or (reading.reads O.order n body.now) [] in
+            result ≡ slice_index_or list i (pos 0) };
 
     // The number that a file gives is the packing's.
     ghost numbered: { NUMBER ≡ reading.number };
@@ -41,24 +42,24 @@ pub trait Unpacking {
 pub trait Packing: Unpacking {
     ghost means: { PackingMeaning };
 
-    // How many bytes the list's body takes.
+    // How many bytes the list's body takes, in any order.
     fn body_length(list: &[i32]) -> usize
         requires { IsVertexCount (length list.now) }
-        ensures size { result ≡ length (means.writes list.now) }
+        ensures size { result ≡ means.size list.now }
         ensures short { result ≤ 8 + 4 * length list.now };
 
     // Writes the list's body to the front of `body`; what follows stays.
-    fn write(list: &[i32], body: &mut [u8])
+    fn write<O: ByteOrder>(list: &[i32], body: &mut [u8])
         requires counted { IsVertexCount (length list.now) }
-        requires room { length (means.writes list.now) ≤ length body.old }
+        requires room { means.size list.now ≤ length body.old }
         ensures { body.new ≡
-            means.writes list.now ++ drop (length (means.writes list.now)) body.old };
+            means.writes O.order list.now ++ drop (means.size list.now) body.old };
 
     // It is written for this very reader.
     ghost read_back: { means.reading ≡ Self.reading };
 }
 
-// Four bytes for each entry, the lowest first.
+// Four bytes for each entry.
 pub struct Plain;
 
 impl Unpacking for Plain {
@@ -70,7 +71,7 @@ impl Unpacking for Plain {
 
     ghost numbered = { refl };
 
-    fn judge(body: &[u8], n: VertexCount) -> Result<(), Why> {
+    fn judge<O: ByteOrder>(body: &[u8], n: VertexCount) -> Result<(), Why> {
         if body.len() == 4 * n.get() {
             Ok(())
         } else {
@@ -78,9 +79,9 @@ impl Unpacking for Plain {
         }
     }
 
-    fn entry(body: &[u8], _n: VertexCount, i: usize) -> i32 {
+    fn entry<O: ByteOrder>(body: &[u8], _n: VertexCount, i: usize) -> i32 {
         let (words, _rest) = body.as_chunks::<4>();
-        i32::from_le_bytes(words[i])
+        O::read_signed(words[i])
     }
 }
 
@@ -89,15 +90,14 @@ impl Packing for Plain {
 
     ghost read_back = { refl };
 
-    #[tactic(auto, using(crate::specs::Plain::length_spelled))]
     fn body_length(list: &[i32]) -> usize {
         4 * list.len()
     }
 
-    #[tactic(auto, using(crate::specs::Plain::length_spelled))]
-    fn write(list: &[i32], body: &mut [u8]) {
+    #[tactic(auto, using(words::proofs::Spelling::length_spelled))]
+    fn write<O: ByteOrder>(list: &[i32], body: &mut [u8]) {
         for (i, x) in list.iter().enumerate() {
-            body[4 * i..4 * i + 4].copy_from_slice(&x.to_le_bytes());
+            body[4 * i..4 * i + 4].copy_from_slice(&O::write_signed(*x));
         }
     }
 }
@@ -114,13 +114,13 @@ impl Unpacking for Fielded {
 
     ghost numbered = { refl };
 
-    fn judge(body: &[u8], n: VertexCount) -> Result<(), Why> {
+    fn judge<O: ByteOrder>(body: &[u8], n: VertexCount) -> Result<(), Why> {
         let n = n.get();
         let Some(([.., width], fields)) = body.split_first_chunk::<5>() else {
             return Err(Why::BodyLength);
         };
         let width = Width::try_from(*width)?;
-        if fields.len() != width.room(n) {
+        if fields.len() != width.fields_size(n) {
             return Err(Why::BodyLength);
         }
         if spare_bits(fields, width.spare(n)) == 0 {
@@ -130,13 +130,13 @@ impl Unpacking for Fielded {
         }
     }
 
-    fn entry(body: &[u8], _n: VertexCount, i: usize) -> i32 {
+    fn entry<O: ByteOrder>(body: &[u8], _n: VertexCount, i: usize) -> i32 {
         let (base, rest) = body.split_first_chunk::<4>().unwrap();
         let (width, fields) = rest.split_first().unwrap();
         let width = Width {
             bits: usize::from(*width),
         };
-        let base = i32::from_le_bytes(*base);
+        let base = O::read_signed(*base);
         base.wrapping_add_unsigned(width.field(fields, i))
     }
 }
@@ -150,9 +150,9 @@ impl Packing for Fielded {
         Framed::of(list).body_length()
     }
 
-    fn write(list: &[i32], body: &mut [u8]) {
+    fn write<O: ByteOrder>(list: &[i32], body: &mut [u8]) {
         let framed = Framed::of(list);
-        framed.write_head(body);
+        framed.write_head::<O>(body);
         framed.lay(&mut body[5..]);
     }
 }
@@ -245,9 +245,9 @@ impl Width {
     }
 
     // How many bytes `n` fields take.
-    fn room(self, n: usize) -> usize
+    fn fields_size(self, n: usize) -> usize
         requires { n ≤ MOST_VERTICES }
-        ensures { result ≡ room n self.bits }
+        ensures { result ≡ fields_size n self.bits }
     {
         (n * self.bits + 7) / 8
     }
@@ -257,7 +257,7 @@ impl Width {
         requires { n ≤ MOST_VERTICES }
         ensures { result ≡ spare n self.bits }
     {
-        8 * self.room(n) - n * self.bits
+        8 * self.fields_size(n) - n * self.bits
     }
 
     // The last bits of those above the last `below`: a field.
@@ -320,36 +320,36 @@ impl<'a> Framed<'a> {
         Framed { list, base, width }
     }
 
-    #[tactic(auto, using(crate::proofs::Reading::length_written))]
     fn body_length(&self) -> usize
-        ensures size { result ≡ length (fielded_writes self.now.list.now) }
+        ensures size { result ≡ fielded_size self.now.list.now }
         ensures short { result ≤ 8 + 4 * length self.now.list.now }
     {
-        5 + self.width.room(self.list.len())
+        5 + self.width.fields_size(self.list.len())
     }
 
     // Writes the base and the width.
-    fn write_head(&self, body: &mut [u8])
+    fn write_head<O: ByteOrder>(&self, body: &mut [u8])
         requires { 5 ≤ length body.old }
-        ensures { body.new ≡ le_bytes self.now.base ++ (self.now.width.bits ∷ drop 5 body.old) }
+        ensures { body.new ≡
+            bytes_of O.order self.now.base ++ (self.now.width.bits ∷ drop 5 body.old) }
     {
-        body[..4].copy_from_slice(&self.base.to_le_bytes());
+        body[..4].copy_from_slice(&O::write_signed(self.base));
         body[4] = self.width.bits as u8;
     }
 
     // Writes the fields; what follows them stays.
     fn lay(&self, out: &mut [u8])
-        requires { room (length self.now.list.now) self.now.width.bits ≤ length out.old }
+        requires { fields_size (length self.now.list.now) self.now.width.bits ≤ length out.old }
         ensures { let w = self.now.width.bits in
             let fields = map (gap self.now.base) self.now.list.now in
-            out.new ≡ laid w fields ++ drop (room (length self.now.list.now) w) out.old }
+            out.new ≡ laid w fields ++ drop (fields_size (length self.now.list.now) w) out.old }
     {
         let (base, width) = (self.base, self.width.bits);
         let mut entries = self.list.iter();
         // of `acc` the last `have` bits are not yet written
         let mut acc: u64 = 0;
         let mut have: usize = 0;
-        for byte in &mut out[..self.width.room(self.list.len())] {
+        for byte in &mut out[..self.width.fields_size(self.list.len())] {
             while have < 8 {
                 // behind the last field, zeros
                 let field = entries.next().map_or(0, |x| x.abs_diff(base));

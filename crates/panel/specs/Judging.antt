@@ -40,17 +40,17 @@ abbrev pub scale_at : Order → Rest → Result (Scale × Rest) Refusal
 scale_at o r = and_then (taken (range_piece o) r) (λ w. unless (range_faults w.0 r.at) (Ok (scale_of w.0, w.1)))
 
 -- a body of so many bytes, in which n entries are due: what the packing reads in it
-abbrev pub body_at : ReadingMeaning → ℕ → ℕ → Rest → Result (List ℤ × Rest) Refusal
-body_at q n len r =
+abbrev pub body_at : Order → ReadingMeaning → ℕ → ℕ → Rest → Result (List ℤ × Rest) Refusal
+body_at o q n len r =
     and_then (bytes_taken len r) (λ b.
-    result_map_both (λ list. (list, b.1)) (λ why. refusal_at why r.at) (q.reads n b.0))
+    result_map_both (λ list. (list, b.1)) (λ why. refusal_at why r.at) (q.reads o n b.0))
 
 -- Q, V and the body of an axis
 unfoldable pub opened : Order → ReadingMeaning → ℕ → Rest → Result (Opened × Rest) Refusal
 opened o q n r =
     and_then (scale_at o r) (λ s.
     and_then (taken (length_piece o) s.1) (λ v.
-    and_then (body_at q n v.0 v.1) (λ b.
+    and_then (body_at o q n v.0 v.1) (λ b.
     Ok (record { scale = s.0; stored = b.0; place = v.1.at }, b.1))))
 
 -- with its codes, once the predictor is undone, if each is one of the scale

@@ -1,3 +1,4 @@
 pub mod Numbers
 pub mod Order
+pub mod Digits
 pub mod Bytes

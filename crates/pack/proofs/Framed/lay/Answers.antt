@@ -6,8 +6,8 @@ use Rattle.std.proofs.lemmas.Bool.{cases_lt}
 use Rattle.std.proofs.lemmas.Nat.{pow_pos}
 use Rattle.std.proofs.ByRecursion.{All-get_or}
 use Rattle.std.proofs.lemmas.List.{length-map, get_or-map, get_or_past, length-drop, length-take-le, drop_all, drop_more}
-use Rattle.pack.specs.Fields.{gap, room}
-use Rattle.pack.proofs.Least.{holds}
+use Rattle.bodies.specs.Fields.{gap, fields_size}
+use Rattle.bodies.proofs.Fielded.{holds}
 use Rattle.pack.proofs.Laying.{Laid, laid_more, laid-byte, laid-done, shifted-fits, held-more, held-byte}
 use Rattle.pack.proofs.Framed.lay.Goals as goal
 
@@ -58,7 +58,7 @@ small c =
     let w : ℕ = c.args.self.now.width.bits in
     let k = c.loop-have.invariant.0 c.loop-byte.byte-items c.loop-byte.invariant.0 c.loop-byte.invariant.1.0 c.loop-byte.invariant.1.1 in
     let f = next-field c k.0 k.1.1 in
-    subst (λ (m : ℕ). m < 2 ^ w) (sym f.0) (below xs b w k.0 (holds (map (gap b) xs) w c.args.self.now.narrowest))
+    subst (λ (m : ℕ). m < 2 ^ w) (sym f.0) (below xs b w k.0 (subst (λ (v : ℕ). AllBelowBase (2 ^ v) (map (gap b) xs)) (sym c.args.self.now.narrowest) (holds (map (gap b) xs))))
 
 pub overflow_add-acc : goal.overflow_add-acc
 overflow_add-acc c =
@@ -116,8 +116,8 @@ returns c =
     let bytes : List ℕ = c.loop-byte.byte-items in
     let end : c.loop-byte.byte-index ≡ length bytes = omega (arith, c.loop-byte-test.false, c.loop-byte.auto.byte-index-end, c.loop-byte.auto.byte-items) in
     let fields : length fs ≡ length xs = length-map xs (gap c.args.self.now.base) in
-    let taken : length (take c.room.result c.args.out.now) ≡ c.room.result = length-take-le c.room.result c.args.out.now (omega (arith, c.requires, c.room.ensures)) in
-    let size : length bytes ≡ room (length fs) w = c.loop-byte.auto.byte-items ∙ taken ∙ c.room.ensures ∙ ap (λ (n : ℕ). room n w) (sym fields) in
+    let taken : length (take c.fields_size.result c.args.out.now) ≡ c.fields_size.result = length-take-le c.fields_size.result c.args.out.now (omega (arith, c.requires, c.fields_size.ensures)) in
+    let size : length bytes ≡ fields_size (length fs) w = c.loop-byte.auto.byte-items ∙ taken ∙ c.fields_size.ensures ∙ ap (λ (n : ℕ). fields_size n w) (sym fields) in
     let last = subst (λ (m : ℕ). Laid w fs bytes c.loop-byte.invariant.0 m c.loop-byte.have (c.loop-byte.acc % 2 ^ c.loop-byte.have)) end c.loop-byte.invariant.1.0 in
     ap₂ (λ (ys zs : List ℕ). ys ++ zs) (laid-done w fs bytes c.loop-byte.invariant.0 c.loop-byte.have (c.loop-byte.acc % 2 ^ c.loop-byte.have) last size)
-    (ap (λ (m : ℕ). drop m c.args.out.now) c.room.ensures)
+    (ap (λ (m : ℕ). drop m c.args.out.now) c.fields_size.ensures)

@@ -1,5 +1,5 @@
 use Rattle.std.proofs.Common.{ℕ, ◌-◌, ◌%◌, ◌^◌, ◌≤◌, ◌≡◌, List, map, drop}
-use Rattle.pack.specs.Fields.{gap}
+use Rattle.bodies.specs.Fields.{gap}
 use Rattle.pack.proofs.Laying.{Laid}
 use Rattle.pack.proofs.Framed.lay.Given as goal
 
