@@ -1,9 +1,11 @@
--- What judging answers of a panel: how many vertices it has, and what follows it.
+-- What the steps of judging answer in place of a whole panel: how many vertices, what follows, an axis that is not yet undone.
 use Rattle.std.specs.Prelude.{ℕ, Ok, Result}
 use Rattle.refusal.specs.declared.Refusal.{Refusal}
 use Rattle.refusal.specs.Refusals.{and_then}
 use Rattle.panel.specs.Panel.{Panel}
 use Rattle.panel.specs.Layout.{Rest}
+use Rattle.panel.specs.Judging.{Opened}
+use Rattle.load.specs.declared.axis.Axis.{Axis}
 
 -- how many vertices a panel has
 abbrev pub count_of : Result Panel Refusal → Result ℕ Refusal
@@ -16,3 +18,11 @@ count_left r = and_then r (λ p. Ok (p.0.count, p.1))
 -- only what follows
 abbrev pub left_of : {X : Type 0} → Result (X × Rest) Refusal → Result Rest Refusal
 left_of r = and_then r (λ x. Ok x.1)
+
+-- an axis as it is read, by what it says
+abbrev pub says_axis : {O Q : Type 0} → Axis O Q → Opened
+says_axis x = record { scale = x.range; stored = x.body; place = x.offset }
+
+-- an answer that may be an axis, by what it says
+abbrev pub opened_by : {O Q : Type 0} → Result (Axis O Q × Rest) Refusal → Result (Opened × Rest) Refusal
+opened_by r = and_then r (λ x. Ok (says_axis x.0, x.1))

@@ -44,7 +44,7 @@ module _ (o : Order) (m : PredictorMeaning) (q : ReadingMeaning) (axes room : �
   faults (range n more) r = piece_faults (range_piece o) r ++ range_faults ((range_piece o).says r.bytes) r.at
   faults (length n more s) r = piece_faults (length_piece o) r
   faults (body n more s bytes) r =
-      let list : Result (List ℤ) Why = q.reads n (take bytes r.bytes) in
+      let list : Result (List ℤ) Why = q.reads o n (take bytes r.bytes) in
       cut_short bytes r ++ (body_faults list r.at ++ stray_codes m s list r.at)
   faults end r = piece_faults end_piece r
   faults nothing r = trailing_faults r

@@ -3,6 +3,7 @@ ghost use Rattle.std.specs.Prelude.{◌≡◌, IfOk, Ok, length};
 ghost use Rattle.panel.specs.Faults.{unless, range_faults};
 ghost use Rattle.range.specs.Scale.{scale_of};
 ghost use Rattle.panel.specs.Judging.{scale_at, opened};
+ghost use Rattle.load.specs.Counted.{opened_by};
 
 use crate::body::Body;
 use crate::piece::{Due, Piece, Rest};
@@ -11,34 +12,22 @@ use pack::Unpacking;
 use range::range::Range;
 use range::words::Words;
 use refusal::Refusal;
-use std::marker::Model;
 use words::ByteOrder;
 
 // An axis as it is read, and where in the file its body begins.
 #[derive(Drop)]
-pub struct Axis<'a, Q: Unpacking> {
+pub struct Axis<'a, O: ByteOrder, Q: Unpacking> {
     pub range: Range,
-    pub body: Body<'a, Q>,
+    pub body: Body<'a, O, Q>,
     pub offset: usize,
 }
 
-impl<'a, Q: Unpacking> Model for Axis<'a, Q> {
-    ghost use Rattle.panel.specs.Judging.{Opened};
-
-    ghost Value = { Opened };
-
-    ghost view = { λ x. record { scale = x.range; stored = x.body; place = x.offset } };
-}
-
-impl<'a, Q: Unpacking> Axis<'a, Q> {
+impl<'a, O: ByteOrder, Q: Unpacking> Axis<'a, O, Q> {
     // Q, V and a body of so many entries, and what follows them.
     #[tactic(auto, unfolding(panel::specs::Judging::opened))]
-    pub fn take<O: ByteOrder>(
-        rest: Rest<'a>,
-        n: VertexCount,
-    ) -> Result<(Axis<'a, Q>, Rest<'a>), Refusal>
-        ensures value { result ≡ opened O.order Q.reading n rest.entry }
-        ensures long { IfOk result (λ x. length x.0.stored ≡ n) }
+    pub fn take(rest: Rest<'a>, n: VertexCount) -> Result<(Axis<'a, O, Q>, Rest<'a>), Refusal>
+        ensures value { opened_by result ≡ opened O.order Q.reading n rest.entry }
+        ensures long { IfOk result (λ x. length x.0.body ≡ n) }
     {
         let (range, rest) = take_range::<O>(rest)?;
         let (Piece::Length(len), rest) = rest.take::<O>(Due::Length)? else {

@@ -106,15 +106,10 @@ fn axis<'a, O: ByteOrder, P: Predictor, Q: Unpacking>(
 ) -> Result<Rest<'a>, Refusal>
     ensures { result ≡ left_of (axis_at O.order P.means Q.reading n rest.entry) }
 {
-    let (axis, after) = Axis::<Q>::take::<O>(rest, n)?;
-    let Axis {
-        range,
-        body,
-        offset,
-    } = axis;
-    for code in body.codes::<P>() {
-        if !range.is_code(code) {
-            return Err(Why::Code.at(offset));
+    let (axis, after) = Axis::<O, Q>::take(rest, n)?;
+    for code in axis.body.codes::<P>() {
+        if !axis.range.is_code(code) {
+            return Err(Why::Code.at(axis.offset));
         }
     }
     Ok(after)

@@ -1,5 +1,5 @@
 // Places the vertices of a file that is judged, axis by axis.
-ghost use Rattle.std.specs.Prelude.{◌≡◌, ℕ, ◌≤◌, true, List, length, is_ok, Ok, Result};
+ghost use Rattle.std.specs.Prelude.{◌≡◌, ℕ, ◌≤◌, true, IsOk, List, length, Ok, Result};
 ghost use Rattle.refusal.specs.declared.Refusal.{Refusal};
 ghost use Rattle.predict.specs.Residues.{values};
 ghost use Rattle.panel.specs.Faults.{all_codes};
@@ -20,6 +20,7 @@ use words::ByteOrder;
 
 // The vertices of a file that is accepted. It stands apart, so that its frame is not held while a file is judged.
 #[inline(never)]
+#[tactic(auto, using(crate::proofs::Placed::axes_accepted))]
 pub fn place<O: ByteOrder, K: PointKind + Copy, P: Predictor, Q: Unpacking>(
     file: &[u8],
     n: VertexCount,
@@ -36,34 +37,35 @@ pub fn place<O: ByteOrder, K: PointKind + Copy, P: Predictor, Q: Unpacking>(
 }
 
 // The vertices on each axis, where the axes are accepted.
+#[tactic(auto, using(crate::proofs::Walk::axis_opens, crate::proofs::Walk::no_axes), unfolding(crate::specs::Filling::fill_from))]
 fn place_axes<O: ByteOrder, K: PointKind + Copy, P: Predictor, Q: Unpacking>(
     rest: Rest<'_>,
     n: VertexCount,
     points: &mut [K],
 )
     requires room { n ≤ length points.old }
-    requires accepted { is_ok (axes_at O.order P.means Q.reading n K.kind.axes rest) ≡ true }
+    requires accepted { IsOk (axes_at O.order P.means Q.reading n K.kind.axes rest) }
     ensures { let axes = axes_at O.order P.means Q.reading n K.kind.axes rest.entry in
         points.new ≡ fill_by K.kind 0 axes points.old }
 {
     let mut left = rest;
     for number in 0..K::AXES {
-        let (axis, after) = Axis::<Q>::take::<O>(left, n).unwrap();
-        place_axis::<K, P, Q>(axis, number, points);
+        let (axis, after) = Axis::<O, Q>::take(left, n).unwrap();
+        place_axis::<O, K, P, Q>(axis, number, points);
         left = after;
     }
 }
 
 // The vertices on one axis, of which every code is one of the range.
-fn place_axis<K: PointKind + Copy, P: Predictor, Q: Unpacking>(
-    axis: Axis<'_, Q>,
+fn place_axis<O: ByteOrder, K: PointKind + Copy, P: Predictor, Q: Unpacking>(
+    axis: Axis<'_, O, Q>,
     number: usize,
     points: &mut [K],
 )
-    requires room { length axis.stored ≤ length points.old }
-    requires coded { all_codes axis.scale (values P.means axis.stored) ≡ true }
-    ensures { let codes = values P.means axis.entry.stored in
-        points.new ≡ fill_on K.kind number axis.entry.scale codes points.old }
+    requires room { length axis.body ≤ length points.old }
+    requires coded { all_codes axis.range (values P.means axis.body) ≡ true }
+    ensures { let codes = values P.means axis.entry.body in
+        points.new ≡ fill_on K.kind number axis.entry.range codes points.old }
 {
     // taken apart: no write to the points can change them, and their figures are taken once
     let Axis { range, body, .. } = axis;

@@ -13,18 +13,18 @@ loop-i-init g c =
     let from = c.into_iter-i-iterator.ensures.into_iter_gives in
     let count = ap enumerate_count from ∙ c.enumerate-i-items.ensures.count in
     let source = ap enumerate_source from ∙ c.enumerate-i-items.ensures.source ∙ c.codes.ensures in
-    let long = length-values g.P.Predictor.means 0 start c.args.axis.stored in
+    let long = length-values g.P.Predictor.means 0 start c.args.axis.body in
     rw (count, source) (record { placed = search rules; coded = c.requires.coded; room = omega (arith, long, c.requires.room) })
 
 pub step_of-requires : goal.step_of-requires
 step_of-requires g c =
-    let s = c.args.axis.scale in
+    let s = c.args.axis.range in
     let fits : SFits w32 c.in-Some.code = search rules in
     rw (to_z-of_z w32 c.in-Some.code fits) (and_parts _ _ (sym (codes_next s _ _ _ c.in-Some.ensures.steps.0) ∙ c.loop-i.invariant.coded)).0
 
 pub loop-i-preserved : goal.loop-i-preserved
 loop-i-preserved g c =
-    let s = c.args.axis.scale in
+    let s = c.args.axis.range in
     let steps = c.in-Some.ensures.steps in
     let one = ap length steps.0 in
     let fits : SFits w32 c.in-Some.code = search rules in
@@ -41,4 +41,4 @@ pub returns : goal.returns
 returns g c =
     let from = c.into_iter-i-iterator.ensures.into_iter_gives in
     let source = ap enumerate_source from ∙ c.enumerate-i-items.ensures.source ∙ c.codes.ensures in
-    place_past g.K.PointKind.kind c.args.number c.args.axis.scale (enumerate_count c.loop-i.i-iterator) c.loop-i.points _ _ c.in-None.ensures.steps.0.0 (rw source at c.loop-i.invariant.placed)
+    place_past g.K.PointKind.kind c.args.number c.args.axis.range (enumerate_count c.loop-i.i-iterator) c.loop-i.points _ _ c.in-None.ensures.steps.0.0 (rw source at c.loop-i.invariant.placed)
