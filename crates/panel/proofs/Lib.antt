@@ -1,7 +1,9 @@
 pub mod Overwriting
 pub mod Points
-pub mod Axes
+pub mod Faults
 pub mod PieceBack
+pub mod Axes
+pub mod Accepted
 pub mod PanelBack
 pub mod Sound
 pub mod Stores

@@ -1,69 +1,61 @@
--- Each piece that is written is read as what was written.
-use Rattle.std.proofs.Common.{◌≡◌, ℕ, ◌+◌, ◌*◌, ◌^◌, ◌<◌, ◌≤◌, true, List, ◌++◌, length, take, ℤ, None, Ok, sym, refl, ap, ◌∙◌, ap₂, arith, length-append}
-use lib.Ieee.{Float, binary32, of_bits, to_bits}
-use Rattle.std.specs.List.{AllByRecursion}
-use Rattle.std.proofs.lemmas.Nat.{from_le_bytes-to_le_bytes_4}
-use Rattle.std.proofs.lemmas.List.{take_at}
+-- A piece that is written is taken back.
+use Rattle.std.proofs.Common.{◌≡◌, ℕ, ◌+◌, ◌^◌, ◌<◌, ◌≤◌, List, [], ◌∷◌, ◌++◌, length, take, Ok, not, refl, ap, ◌∙◌, ap₂, append_assoc, arith, length-append}
+use Rattle.std.proofs.lemmas.List.{take_at, drop_at}
 use Rattle.std.proofs.lemmas.Bool.{le-ltb, eq-eqb}
-use Rattle.words.specs.Numbers.{Word}
-use Rattle.predict.specs.Predictor.{PredictorMeaning}
-use Rattle.predict.specs.Residues.{start, residues, values}
-use Rattle.predict.proofs.Undone.{start-words, values-back, residues-words, length-residues}
-use Rattle.kinds.specs.Count.{IsVertexCount}
-use Rattle.pack.specs.Packing.{PackingMeaning}
-use Rattle.range.specs.Judged.{refusal}
-use Rattle.range.specs.Scale.{Scale, scale_from}
-use Rattle.panel.specs.Words.{word}
-use Rattle.panel.specs.Written.{head_piece, range_piece, length_piece}
-use Rattle.panel.specs.Judging.{head_at, range_at, length_at, body_at, all_codes, scaled, scaled_by}
+use Rattle.words.specs.Order.{Order, word_at}
+use Rattle.range.specs.declared.words.Words.{Words}
+use Rattle.panel.specs.Layout.{Rest, Layout, Header, piece_bytes, header_piece, range_piece, length_piece, end_piece}
+use Rattle.panel.specs.Faults.{piece_faults}
+use Rattle.panel.specs.Judging.{taken}
+use Rattle.panel.proofs.Faults.{unless_none}
 
--- a scale as a range has it: not refused, stored as it is, and its ends in a word each
-pub record Sound (s : Scale) : Type 0 where
-  pub good : refusal s.bits s.lower s.upper ≡ None
-  pub stays : scale_from s.bits s.lower s.upper ≡ s
-  pub low : of_bits binary32 (to_bits binary32 s.lower) ≡ s.lower
-  pub high : of_bits binary32 (to_bits binary32 s.upper) ≡ s.upper
-  pub low_word : to_bits binary32 s.lower < 2 ^ 32
-  pub high_word : to_bits binary32 s.upper < 2 ^ 32
+-- what a layout says of its own bytes, whatever follows them, is what they were made of
+pub record IsReadBack {X : Type 0} (l : Layout X) (x : X) : Type 0 where
+  pub sized : length (piece_bytes l x) ≡ l.size
+  pub said : (rest : List ℕ) → l.says (piece_bytes l x ++ rest) ≡ x
 
-pub head-back : (a p q n room : ℕ) (rest : List ℕ) → IsVertexCount n → n ≤ room → head_at a p q room (head_piece a p q n ++ rest) ≡ Ok n
-head-back a p q n room rest counted enough =
-    let bs = head_piece a p q n ++ rest in
-    let w : word bs 4 ≡ n = from_le_bytes-to_le_bytes_4 n (omega arith) in
-    simp (le-ltb (length bs) 8 (omega arith), eq-eqb a a refl, eq-eqb p p refl, eq-eqb q q refl, w, le-ltb n 2 counted.0, le-ltb 4096 n counted.1, le-ltb room n enough)
+pub taken_back : {X : Type 0} (l : Layout X) (x : X) (rest : List ℕ) (at : ℕ) → IsReadBack l x →
+    taken l (record { bytes = piece_bytes l x ++ rest; at = at }) ≡ Ok (x, record { bytes = rest; at = at + l.size })
+taken_back l x rest at back =
+    let r : Rest = record { bytes = piece_bytes l x ++ rest; at = at } in
+    let room : l.size ≤ length r.bytes = omega (arith, length-append (piece_bytes l x) rest, back.sized) in
+    unless_none (piece_faults l r) _ (le-ltb (length r.bytes) l.size room, (ap not (eq-eqb l.letter l.letter refl), tt))
+    ∙ ap₂ (λ y (left : List ℕ). Ok (y, record { bytes = left; at = at + l.size })) (back.said rest) (drop_at (piece_bytes l x) rest l.size back.sized)
 
-pub range_back : (s : Scale) (at : ℕ) (rest : List ℕ) → Sound s → range_at at (range_piece s ++ rest) ≡ Ok s
-range_back s at rest sound =
-    let bs = range_piece s ++ rest in
-    let l : of_bits binary32 (word bs 2) ≡ s.lower = ap (of_bits binary32) (from_le_bytes-to_le_bytes_4 _ sound.low_word) ∙ sound.low in
-    let u : of_bits binary32 (word bs 6) ≡ s.upper = ap (of_bits binary32) (from_le_bytes-to_le_bytes_4 _ sound.high_word) ∙ sound.high in
-    let made : scaled_by at s.bits s.lower s.upper ≡ Ok s = ap (scaled at s.bits s.lower s.upper) sound.good ∙ ap Ok sound.stays in
-    simp (le-ltb (length bs) 10 (omega arith)) (ap₂ (λ (x y : Float). scaled_by at s.bits x y) l u ∙ made)
+module _ (o : Order) where
+  word_back : (front : List ℕ) (n : ℕ) (rest : List ℕ) (i : ℕ) → length front ≡ i → n < 2 ^ 32 → word_at o (front ++ (o.writes n ++ rest)) i ≡ n
+  word_back front n rest i e small =
+      ap (λ l. o.reads (take 4 l)) (drop_at front (o.writes n ++ rest) i e) ∙ ap o.reads (take_at (o.writes n) rest 4 (o.four n)) ∙ o.back n small
 
-pub length_back : (n at : ℕ) (rest : List ℕ) → n < 2 ^ 32 → length_at at (length_piece n ++ rest) ≡ Ok n
-length_back n at rest small =
-    let bs = length_piece n ++ rest in
-    simp (le-ltb (length bs) 5 (omega arith)) (ap Ok (from_le_bytes-to_le_bytes_4 n small))
+  pub range_sized : (w : Words) → length (piece_bytes (range_piece o) w) ≡ 10
+  range_sized w = omega (arith, length-append (o.writes w.lower) (o.writes w.upper), o.four w.lower, o.four w.upper)
 
-module _ (m : PredictorMeaning) (q : PackingMeaning) (n : ℕ) (codes : List ℤ) (long : length codes ≡ n) (counted : IsVertexCount n) (words : AllByRecursion Word codes) where
-  stored-words : AllByRecursion Word (residues m codes)
-  stored-words = residues-words m 0 start codes (omega arith) start-words words
+  pub length_sized : (n : ℕ) → length (piece_bytes (length_piece o) n) ≡ 5
+  length_sized n = omega (arith, o.four n)
 
-  stored-long : length (residues m codes) ≡ n
-  stored-long = length-residues m 0 start codes ∙ long
+  pub header_back : (h : Header) → h.count < 2 ^ 32 → IsReadBack (header_piece o) h
+  header_back h small = record {
+    sized = omega (arith, o.four h.count);
+    said = λ rest. ap (λ n. record { axes = h.axes; predictor = h.predictor; packing = h.packing; count = n })
+        (word_back (0x4E ∷ h.axes ∷ h.predictor ∷ h.packing ∷ []) h.count rest 4 refl small);
+  }
 
-  pub body-short : length (q.writes (residues m codes)) ≤ 8 + 4 * n
-  body-short = omega (arith, q.short (residues m codes) stored-words, stored-long)
+  pub range_back : (w : Words) → w.lower < 2 ^ 32 → w.upper < 2 ^ 32 → IsReadBack (range_piece o) w
+  range_back w low high =
+      let l = o.writes w.lower in
+      let u = o.writes w.upper in
+      record {
+        sized = range_sized w;
+        said = λ rest.
+            let bytes : List ℕ → List ℕ = λ t. 0x51 ∷ w.bits ∷ t in
+            let split : (l ++ u) ++ rest ≡ l ++ (u ++ rest) = append_assoc l u rest in
+            ap₂ (λ x y. record { bits = w.bits; lower = x; upper = y })
+            (ap (λ t. word_at o (bytes t) 2) split ∙ word_back (bytes []) w.lower (u ++ rest) 2 refl low)
+            (ap (λ t. word_at o (bytes t) 6) split ∙ word_back (bytes l) w.upper rest 6 (omega (arith, o.four w.lower)) high);
+      }
 
-  pub body_back : (at : ℕ) (s : Scale) (rest : List ℕ) → all_codes s codes ≡ true →
-      body_at m q.reading n at s (length (q.writes (residues m codes))) (q.writes (residues m codes) ++ rest) ≡ Ok codes
-  unfolding body_at
-  body_back at s rest inside =
-      let bs : List ℕ = q.writes (residues m codes) in
-      let le : length bs ≤ length (bs ++ rest) = simp length-append (omega arith) in
-      let back : q.reading.reads (length (residues m codes)) bs ≡ Ok (residues m codes) = q.back (residues m codes) (rw stored-long counted) stored-words in
-      let front : take (length bs) (bs ++ rest) ≡ bs = take_at bs rest _ refl in
-      let read : q.reading.reads n (take (length bs) (bs ++ rest)) ≡ Ok (residues m codes) =
-      ap₂ (λ (k : ℕ) (ys : List ℕ). q.reading.reads k ys) (sym stored-long) front ∙ back in
-      let undo : values m (residues m codes) ≡ codes = values-back m 0 start codes (omega arith) start-words words in
-      simp (le-ltb (length (bs ++ rest)) (length bs) le, read, undo, inside)
+  pub length_back : (n : ℕ) → n < 2 ^ 32 → IsReadBack (length_piece o) n
+  length_back n small = record { sized = length_sized n; said = λ rest. word_back (0x56 ∷ []) n rest 1 refl small }
+
+pub end_back : IsReadBack end_piece tt
+end_back = record { sized = refl; said = λ rest. refl }

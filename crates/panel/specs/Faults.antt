@@ -1,5 +1,5 @@
 -- The faults that a piece of a file can have, in the order of their numbers.
-use Rattle.std.specs.Prelude.{ℕ, Bool, true, false, not, ◌&&◌, cond, List, [], ◌∷◌, length, ℤ, Ok, Err, Result, ◌==◌, from_bits, int_lt, nat_le, nat_lt, slice_index, Float}
+use Rattle.std.specs.Prelude.{ℕ, Bool, false, not, ◌&&◌, cond, List, [], ◌∷◌, length, ℤ, Ok, Err, Result, ◌==◌, from_bits, int_lt, nat_le, nat_lt, slice_index, Float}
 use Rattle.std.specs.Float.{binary32}
 use Rattle.std.specs.List.{list_all}
 use Rattle.refusal.specs.Numbers.{number_of}

@@ -1,6 +1,6 @@
 -- The panel that a file means, or why it is refused and where: pieces in the order of the file, and within a piece the
 -- smaller number first. A panel is judged from any place on, and what follows it is answered.
-use Rattle.std.specs.Prelude.{ℕ, zero, suc, List, [], ◌∷◌, take, ℤ, Ok, Err, Result}
+use Rattle.std.specs.Prelude.{ℕ, zero, suc, List, [], ◌∷◌, take, ℤ, Ok, Result}
 use Rattle.std.specs.Result.{result_map_both}
 use Rattle.words.specs.Order.{Order}
 use Rattle.refusal.specs.declared.Refusal.{Refusal}

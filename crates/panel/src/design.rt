@@ -1,10 +1,12 @@
 // Design points, and the file that they are stored as.
-ghost use Rattle.std.specs.Prelude.{◌≡◌, ◌≤◌, true, length};
+ghost use Rattle.std.specs.Prelude.{◌≡◌, ◌≤◌, true, length, Ok};
 ghost use Rattle.predict.specs.Residues.{residues};
 ghost use Rattle.kinds.specs.Count.{IsVertexCount};
+ghost use Rattle.words.specs.Bytes.{overwritten};
 ghost use Rattle.panel.specs.Panel.{codes_on, inside_from, inside_on, panel_on};
-ghost use Rattle.panel.specs.Stored.{filed};
-ghost use Rattle.panel.specs.Written.{written};
+ghost use Rattle.panel.specs.Faults.{unless};
+ghost use Rattle.panel.specs.Stored.{filed, space_faults};
+ghost use Rattle.panel.specs.Written.{file_of};
 
 use crate::axis::write_axis;
 use crate::pieces::{END_LETTER, END_SIZE, HEAD_SIZE, LENGTH_SIZE, RANGE_SIZE, head_piece, put};
@@ -13,6 +15,7 @@ use pack::Packing;
 use predict::{Before, Predictor};
 use range::range::Range;
 use refusal::{Refusal, Why};
+use words::ByteOrder;
 
 // Design points with a range for each axis, in which they lie.
 #[derive(Drop)]
@@ -47,25 +50,50 @@ pub(crate) fn are_inside<K: PointKind>(points: &[K], ranges: &[Range]) -> bool
 
 impl<'a, K: PointKind> Design<'a, K> {
     // Writes the file to the front of `file`, if it has room, and answers its length; what follows stays.
-    #[tactic(auto, unfolding(crate::specs::Written::written))]
-    pub(crate) fn store<P: Predictor, Q: Packing>(
+    pub(crate) fn store<O: ByteOrder, P: Predictor, Q: Packing>(
         &self,
         work: &mut [i32],
         file: &mut [u8],
     ) -> Result<usize, Refusal>
         requires { length work.old ≡ length self.now.points.now }
         ensures { let panel = panel_on K.kind self.now.ranges.now self.now.points.now in
-            (result, file.new) ≡ filed (written P.means Q.means panel) file.old }
+            let bytes = file_of O.order P.means Q.means panel in
+            let faults = space_faults bytes (length file.old) in
+            (result, file.new) ≡ filed (unless faults (Ok bytes)) file.old }
+    {
+        let size = self.file_length::<O, P, Q>(work);
+        if file.len() < size {
+            return Err(Why::NoSpace.into());
+        }
+        self.write::<O, P, Q>(work, file);
+        Ok(size)
+    }
+
+    // How many bytes the file takes.
+    fn file_length<O: ByteOrder, P: Predictor, Q: Packing>(&self, work: &mut [i32]) -> usize
+        requires { length work.old ≡ length self.now.points.now }
+        ensures size { let panel = panel_on K.kind self.now.ranges.now self.now.points.now in
+            result ≡ length (file_of O.order P.means Q.means panel) }
+        ensures work { length work.new ≡ length work.old }
     {
         let mut size: usize = HEAD_SIZE + END_SIZE;
         for (axis, range) in self.ranges.iter().enumerate() {
             self.fill::<P>(axis, range, work);
             size += RANGE_SIZE + LENGTH_SIZE + Q::body_length(work);
         }
-        if file.len() < size {
-            return Err(Why::NoSpace.into());
-        }
-        let head = head_piece(
+        size
+    }
+
+    // Writes it to the front of `file`; what follows stays.
+    #[tactic(auto, unfolding(crate::specs::Written::file_of))]
+    fn write<O: ByteOrder, P: Predictor, Q: Packing>(&self, work: &mut [i32], file: &mut [u8])
+        requires work { length work.old ≡ length self.now.points.now }
+        requires space { let panel = panel_on K.kind self.now.ranges.now self.now.points.now in
+            length (file_of O.order P.means Q.means panel) ≤ length file.old }
+        ensures { let panel = panel_on K.kind self.now.ranges.now self.now.points.now in
+            file.new ≡ overwritten file.old 0 (file_of O.order P.means Q.means panel) }
+    {
+        let head = head_piece::<O>(
             self.ranges.len() as u8,
             P::NUMBER,
             Q::NUMBER,
@@ -75,10 +103,9 @@ impl<'a, K: PointKind> Design<'a, K> {
         let mut at = HEAD_SIZE;
         for (axis, range) in self.ranges.iter().enumerate() {
             self.fill::<P>(axis, range, work);
-            at = write_axis::<Q>(range, work, file, at);
+            at = write_axis::<O, Q>(range, work, file, at);
         }
         file[at] = END_LETTER;
-        Ok(size)
     }
 
     // Fills the work list with what is stored of the points' codes on an axis, by the range in which they lie.

@@ -16,6 +16,7 @@ use design::{Design, are_inside};
 use predict::Predictor;
 use range::range::Range;
 use refusal::{Refusal, Why};
+use words::LowFirst;
 
 // Stores design points: writes their file to the front of `file`, and answers its length. The ranges are those of the
 // kind's axes, the first ones; the work list needs room for as many entries as there are points. A refusal leaves `file`
@@ -45,7 +46,7 @@ pub fn store<K: PointKind, P: Predictor, Q: Packing>(
         points: design,
         ranges,
     };
-    design.store::<P, Q>(work, file)
+    design.store::<LowFirst, P, Q>(work, file)
 }
 
 // A store that says yes wrote the file of its points, and every such file is read back.

@@ -1,10 +1,12 @@
-// The pieces of a panel file: each begins with its letter, and numbers have their low byte first.
+// The pieces of a panel file: each begins with its letter, and numbers stand in a byte order.
 ghost use Rattle.std.specs.Prelude.{◌≡◌, ◌+◌, ◌≤◌, length};
+ghost use Rattle.range.specs.Scale.{in_words};
 ghost use Rattle.words.specs.Bytes.{overwritten};
-ghost use Rattle.panel.specs.Written.{head_piece, range_piece, length_piece};
+ghost use Rattle.panel.specs.Layout.{Header, piece_bytes, header_piece, range_piece, length_piece};
 
 use range::range::Range;
 use range::words::Words;
+use words::ByteOrder;
 
 // N: the axis count, the predictor, the packing and the vertex count.
 pub const HEAD_LETTER: u8 = b'N';
@@ -26,26 +28,37 @@ pub const END_LETTER: u8 = b'E';
 
 pub const END_SIZE: usize = 1;
 
-pub(crate) fn head_piece(axes: u8, predictor: u8, packing: u8, count: u32) -> [u8; HEAD_SIZE]
-    ensures { result ≡ head_piece axes predictor packing count }
+pub(crate) fn head_piece<O: ByteOrder>(
+    axes: u8,
+    predictor: u8,
+    packing: u8,
+    count: u32,
+) -> [u8; HEAD_SIZE]
+    ensures { let header : Header = record {
+      axes = axes;
+      predictor = predictor;
+      packing = packing;
+      count = count;
+    } in
+        result ≡ piece_bytes (header_piece O.order) header }
 {
-    let [a, b, c, d] = count.to_le_bytes();
+    let [a, b, c, d] = O::write(count);
     [HEAD_LETTER, axes, predictor, packing, a, b, c, d]
 }
 
-pub(crate) fn range_piece(range: &Range) -> [u8; RANGE_SIZE]
-    ensures { result ≡ range_piece range.now }
+pub(crate) fn range_piece<O: ByteOrder>(range: &Range) -> [u8; RANGE_SIZE]
+    ensures { result ≡ piece_bytes (range_piece O.order) (in_words range.now) }
 {
     let Words { bits, lower, upper } = (*range).into();
-    let [a, b, c, d] = lower.to_le_bytes();
-    let [e, f, g, h] = upper.to_le_bytes();
+    let [a, b, c, d] = O::write(lower);
+    let [e, f, g, h] = O::write(upper);
     [RANGE_LETTER, bits, a, b, c, d, e, f, g, h]
 }
 
-pub(crate) fn length_piece(length: u32) -> [u8; LENGTH_SIZE]
-    ensures { result ≡ length_piece length }
+pub(crate) fn length_piece<O: ByteOrder>(length: u32) -> [u8; LENGTH_SIZE]
+    ensures { result ≡ piece_bytes (length_piece O.order) length }
 {
-    let [a, b, c, d] = length.to_le_bytes();
+    let [a, b, c, d] = O::write(length);
     [LENGTH_LETTER, a, b, c, d]
 }
 

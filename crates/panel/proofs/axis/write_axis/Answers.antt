@@ -1,15 +1,25 @@
-use Rattle.std.proofs.Common.{ℕ, ◌+◌, ◌-◌, length, drop, refl, ap, ◌∙◌, arith}
-use Rattle.panel.proofs.Overwriting.{over-part, over-whole}
-use Rattle.panel.proofs.Axes.{axis-over}
+use Rattle.std.proofs.Common.{ℕ, ◌+◌, List, length, drop, sym, ap, ap₂, ◌∙◌, arith}
+use Rattle.words.specs.Bytes.{overwritten}
+use Rattle.range.specs.Scale.{in_words}
+use Rattle.panel.specs.Layout.{piece_bytes, range_piece, length_piece}
+use Rattle.panel.proofs.Overwriting.{over-part, over-whole, over_three}
+use Rattle.panel.proofs.PieceBack.{range_sized, length_sized}
 use Rattle.panel.proofs.axis.write_axis.Goals as goal
 
 pub returns-clause-bytes : goal.returns-clause-bytes
 returns-clause-bytes g c =
+    let o = g.O.ByteOrder.order in
     let q = g.Q.Packing.means in
-    let body : ℕ = c.args.at + 10 + 5 in
-    let size = c.body_length-size.ensures.size in
-    let whole = over-whole c.write.new.body (q.writes c.args.entries.now) (drop body c.put-2.new.file) (body + c.body_length-size.result - body) c.write.ensures (omega arith) in
-    let b = ap length whole in
-    over-part body _ c.put-2.new.file c.write.new.body _ refl (omega arith)
-    ∙ axis-over q c.args.range.now c.args.entries.now c.args.file.now c.put.new.file c.put-2.new.file _ _ c.write.new.body c.args.at body c.body_length-size.result
-    (omega arith) size c.range_piece.ensures c.put.ensures c.length_piece.ensures c.put-2.ensures whole c.requires.space
+    let list = c.args.entries.now in
+    let file = c.args.file.now in
+    let at = c.args.at in
+    let body : ℕ = at + 10 + 5 in
+    let R : List ℕ = piece_bytes (range_piece o) (in_words c.args.range.now) in
+    let V : List ℕ = piece_bytes (length_piece o) (length (q.writes o list)) in
+    let size = c.body_length-size.ensures.size ∙ sym (q.sized o list) in
+    let first = c.put.ensures ∙ ap (overwritten file at) c.range_piece.ensures in
+    let second = c.put-2.ensures ∙ ap₂ (λ f y. overwritten f (at + 10) y) first (c.length_piece.ensures ∙ ap (piece_bytes (length_piece o)) size) in
+    over-part body _ c.put-2.new.file c.write.new.body (q.writes o list)
+    (over-whole c.write.new.body (q.writes o list) (drop body c.put-2.new.file) _ _ c.write.ensures (omega (arith, c.body_length-size.ensures.size))) (omega (arith, size))
+    ∙ ap (λ f. overwritten f body (q.writes o list)) second
+    ∙ over_three file at (at + 10) body R V (q.writes o list) (omega (arith, range_sized o (in_words c.args.range.now))) (omega (arith, length_sized o (length (q.writes o list)))) c.requires.space

@@ -1,0 +1,88 @@
+use Rattle.std.proofs.Common.{◌≡◌, ℕ, ◌+◌, List, ◌++◌, length, drop, sym, ap, ◌∙◌, arith}
+use Rattle.words.specs.Bytes.{overwritten}
+use Rattle.panel.specs.Layout.{piece_bytes, header_piece}
+use Rattle.panel.specs.Panel.{axes_from, panel_on}
+use Rattle.panel.specs.Written.{rest_bytes, stored_axis, file_of}
+use Rattle.panel.proofs.Axes.{inside_each, length_file, length_stored, length_next, rest_next, rest_end}
+use Rattle.panel.proofs.Overwriting.{over-more, over-one}
+use Rattle.panel.proofs.Sound.{length-axes}
+use Rattle.panel.proofs.design.Design.write.Goals as goal
+
+pub put-requires : goal.put-requires
+put-requires g c =
+    let s = c.args.self.now in
+    omega (
+      arith,
+      length_file g.O.ByteOrder.order g.P.Predictor.means g.Q.Packing.means (panel_on g.K.PointKind.kind s.ranges.now s.points.now),
+      ap length c.head_piece-head.ensures,
+      g.O.ByteOrder.order.four (length s.points.now),
+    )
+
+pub fill-requires-clause-inside : goal.fill-requires-clause-inside
+fill-requires-clause-inside g c =
+    let s = c.args.self.now in
+    inside_each g.K.PointKind.kind s.points.now s.ranges.now c.loop-axis.axis c.range-item.result c.loop-axis-test.true c.range-item.is s.inside
+
+pub write_axis-at-requires-clause-space : goal.write_axis-at-requires-clause-space
+write_axis-at-requires-clause-space g c =
+    let o = g.O.ByteOrder.order in
+    let m = g.P.Predictor.means in
+    let q = g.Q.Packing.means in
+    let s = c.args.self.now in
+    let d = c.range-item.result in
+    let work = c.fill.new.work in
+    omega (
+      arith,
+      length_file o m q (panel_on g.K.PointKind.kind s.ranges.now s.points.now),
+      length_stored o q d work,
+      length_next o m q g.K.PointKind.kind s.points.now s.ranges.now c.loop-axis.axis d work c.loop-axis-test.true c.range-item.is c.fill.ensures,
+    )
+
+pub loop-axis-preserved : goal.loop-axis-preserved
+loop-axis-preserved g c =
+    let o = g.O.ByteOrder.order in
+    let m = g.P.Predictor.means in
+    let q = g.Q.Packing.means in
+    let k = g.K.PointKind.kind in
+    let s = c.args.self.now in
+    let l = c.loop-axis in
+    let d = c.range-item.result in
+    let work = c.fill.new.work in
+    let rest : List ℕ = rest_bytes o m q (axes_from k s.points.now (l.axis + 1) (drop (l.axis + 1) s.ranges.now)) in
+    let more = rest_next o m q k s.points.now s.ranges.now l.axis d work c.loop-axis-test.true c.range-item.is c.fill.ensures in
+    let long = length_next o m q k s.points.now s.ranges.now l.axis d work c.loop-axis-test.true c.range-item.is c.fill.ensures in
+    let bytes = length_stored o q d work in
+    let whole = length_file o m q (panel_on k s.ranges.now s.points.now) in
+    record {
+      bytes =
+          ap (λ (f : List ℕ). overwritten f c.write_axis-at.result rest) c.write_axis-at.ensures.bytes
+          ∙ over-more l.file l.at (stored_axis o q d work) (omega arith) c.write_axis-at.result rest c.write_axis-at.ensures.next
+          ∙ sym (ap (overwritten l.file l.at) more) ∙ l.invariant.bytes;
+      room = omega (arith, c.write_axis-at.ensures.next);
+    }
+
+pub returns : goal.returns
+unfolding file_of
+returns g c =
+    let o = g.O.ByteOrder.order in
+    let m = g.P.Predictor.means in
+    let q = g.Q.Packing.means in
+    let k = g.K.PointKind.kind in
+    let ps = c.args.self.now.points.now in
+    let gs = c.args.self.now.ranges.now in
+    let file : List ℕ = c.args.file.now in
+    let l = c.loop-axis in
+    let all : List ℕ = rest_bytes o m q (axes_from k ps 0 gs) in
+    let head : c.head_piece-head.result ≡ piece_bytes (header_piece o) (record { axes = length (axes_from k ps 0 gs); predictor = m.number; packing = q.reading.number; count = length ps }) =
+    c.head_piece-head.ensures
+    ∙ simp (length-axes k ps 0 gs, c.NUMBER.ensures, g.met.P.Predictor.numbered, c.NUMBER-2.ensures, g.met.Q.Unpacking.numbered, ap (λ r. r.number) g.met.Q.Packing.read_back) in
+    let end = rest_end o m q k ps gs l.axis c.loop-axis-test.false in
+    let eight = ap length head in
+    let four = o.four (length ps) in
+    let whole = length_file o m q (panel_on k gs ps) in
+    over-one l.file l.at 69 (omega (arith, ap length end))
+    ∙ sym (ap (overwritten l.file l.at) end)
+    ∙ l.invariant.bytes
+    ∙ ap (λ (f : List ℕ). overwritten f 8 all) c.put.ensures
+    ∙ over-more file 0 c.head_piece-head.result (omega arith) 8 all (omega arith)
+    ∙ ap (λ (h : List ℕ). overwritten file 0 (h ++ all)) head
