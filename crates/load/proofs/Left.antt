@@ -1,173 +1,141 @@
 -- What is left of a file, from any piece on: judged by the faults of the piece, and then by what is left after it. Assumes nothing.
-use Rattle.std.proofs.Common.{◌≡◌, ℕ, zero, suc, ◌+◌, ◌<◌, ◌≤◌, Bool, true, false, cond, not, ◌&&◌, ◌||◌, eqb, ltb, leb, ◌⊎◌, List, length, get_or, take, drop, ℤ, Some, None, Ok, Err, Result, sym, refl, ap, ◌∙◌, subst, ap₂, ⊎_elim, arith, lit<}
-use lib.Ieee.{Float, binary32, of_bits}
-use lib.Signed.{lt_z}
-use Rattle.std.proofs.lemmas.List.{drop-drop}
-use Rattle.std.proofs.lemmas.Bool.{ltb-false, eqb-true, eqb-false, le-ltb, lt-ltb}
+use Rattle.std.proofs.Common.{◌≡◌, ℕ, zero, suc, ◌+◌, ◌<◌, Bool, true, false, cond, ◌⊎◌, List, [], ◌∷◌, ◌++◌, take, ℤ, Ok, Err, Result, sym, refl, ap, ◌∙◌, subst, ⊎_elim, lit<}
+use Rattle.std.specs.Prelude.{IfErr}
+use Rattle.std.specs.Result.{result_map_both}
+use Rattle.words.specs.Order.{Order}
 use Rattle.refusal.specs.declared.Why.{Why}
-use Rattle.refusal.specs.declared.Why.TheVariants.{Truncated, Letter, AxisCount, PredictorByte, PackingByte, VertexCount, ShortList, Bits, End, Order, BodyLength, SpareBits, Code, Trailing}
+use Rattle.refusal.specs.declared.Why.TheVariants.{BodyLength, SpareBits}
 use Rattle.refusal.specs.declared.Refusal.{Refusal}
+use Rattle.refusal.specs.Refusals.{and_then, refuse, refusal_at}
 use Rattle.predict.specs.Predictor.{PredictorMeaning}
 use Rattle.predict.specs.Residues.{values}
 use Rattle.pack.specs.Packing.{ReadingMeaning}
-use Rattle.range.specs.Units.{good_end, units_of}
-use Rattle.range.specs.Scale.{Scale, scale_from}
+use Rattle.range.specs.Scale.{Scale, scale_of}
+use Rattle.panel.specs.Layout.{Rest, past, header_piece, range_piece, length_piece, end_piece}
 use Rattle.panel.specs.Panel.{Axis}
-use Rattle.panel.specs.Words.{word}
-use Rattle.panel.specs.Judging.{Rest, refuse, and_then, head_at, range_at, length_at, end_at, body_at, axis_at, axes_at, undone, more, scaled, all_codes}
-use Rattle.load.specs.Faults.{Due, header, range, size, body, end, nothing, faults, after, axes_due, bytes_of, refused_for, strays}
-use Rattle.load.proofs.Walk.{closed}
-use Rattle.load.proofs.Firsts.{judged_by, Rising}
+use Rattle.panel.specs.Faults.{Fault, unless, piece_faults, header_faults, range_faults, cut_short, body_faults, code_faults, stray_codes}
+use Rattle.panel.specs.Judging.{taken, end_at, nothing_follows, scale_at, body_at, opened, Opened, coded, with_axis, head_at, axis_at, axes_at}
+use Rattle.load.specs.Reader.{Due, header, range, length, body, end, nothing, read, faults, after, axes_due, size_of}
+use Rattle.load.proofs.Firsts.{Rising}
 
--- the tests of the header, in their order
-header-tests : {X : Type 0} (n : ℕ) (k : ℕ → Result X Refusal) (short right axes predictor packing few many room : Bool) →
-    and_then (cond short (refuse Truncated 0) (cond right (cond axes (cond predictor (cond packing
-    (cond few (refuse VertexCount 0) (cond many (refuse VertexCount 0) (cond room (refuse ShortList 0) (Ok n))))
-    (refuse PackingByte 0)) (refuse PredictorByte 0)) (refuse AxisCount 0)) (refuse Letter 0))) k
-    ≡ cond short (refuse Truncated 0) (cond (not right) (refuse Letter 0) (cond (not axes) (refuse AxisCount 0) (cond (not predictor) (refuse PredictorByte 0) (cond (not packing) (refuse PackingByte 0)
-    (cond (few || many) (refuse VertexCount 0) (cond room (refuse ShortList 0) (k n)))))))
-header-tests n k true right axes predictor packing few many room = refl
-header-tests n k false false axes predictor packing few many room = refl
-header-tests n k false true false predictor packing few many room = refl
-header-tests n k false true true false packing few many room = refl
-header-tests n k false true true true false few many room = refl
-header-tests n k false true true true true true many room = refl
-header-tests n k false true true true true false true room = refl
-header-tests n k false true true true true false false true = refl
-header-tests n k false true true true true false false false = refl
+-- steps one after another
+pub then_then : {X Y Z E : Type 0} (r : Result X E) (f : X → Result Y E) (g : Y → Result Z E) → and_then (and_then r f) g ≡ and_then r (λ x. and_then (f x) g)
+then_then (Ok x) f g = refl
+then_then (Err e) f g = refl
 
--- those of a range
-range-tests : {X : Type 0} (at b : ℕ) (l u : Float) (k : Scale → Result X Refusal) (short right bits ends order : Bool) →
-    and_then (cond short (refuse Truncated at) (cond right (scaled at b l u (cond bits (cond ends (cond order None (Some Order)) (Some End)) (Some Bits))) (refuse Letter at))) k
-    ≡ cond short (refuse Truncated at) (cond (not right) (refuse Letter at) (cond (not bits) (refuse Bits at) (cond (not ends) (refuse End at) (cond (not order) (refuse Order at) (k (scale_from b l u))))))
-range-tests at b l u k true right bits ends order = refl
-range-tests at b l u k false false bits ends order = refl
-range-tests at b l u k false true false ends order = refl
-range-tests at b l u k false true true false order = refl
-range-tests at b l u k false true true true false = refl
-range-tests at b l u k false true true true true = refl
+pub then_same : {X Y E : Type 0} (r : Result X E) (f g : X → Result Y E) → ((x : X) → f x ≡ g x) → and_then r f ≡ and_then r g
+then_same (Ok x) f g same = same x
+then_same (Err e) f g same = refl
 
--- those of a length
-length-tests : {X : Type 0} (at n : ℕ) (k : ℕ → Result X Refusal) (short right : Bool) →
-    and_then (cond short (refuse Truncated at) (cond right (Ok n) (refuse Letter at))) k ≡ cond short (refuse Truncated at) (cond (not right) (refuse Letter at) (k n))
-length-tests at n k true right = refl
-length-tests at n k false false = refl
-length-tests at n k false true = refl
+module _ {X Y : Type 0} (f : X → Result Y Refusal) where
+  by_found : (b : Bool) (e : Refusal) (r : Result X Refusal) → and_then (cond b (Err e) r) f ≡ cond b (Err e) (and_then r f)
+  by_found true e r = refl
+  by_found false e r = refl
 
--- those of E
-end-tests : (at n : ℕ) (short right one : Bool) → ltb n 1 ≡ short → eqb n 1 ≡ one →
-    ◌≡◌ {A = Result (Unit {0}) Refusal} (cond short (refuse Truncated at) (cond right (cond one (Ok tt) (refuse Trailing (at + 1))) (refuse Letter at)))
-    (cond short (refuse Truncated at) (cond (not right) (refuse Letter at) (cond (ltb 1 n) (refuse Trailing (at + 1)) (Ok tt))))
-end-tests at n true right one es eo = refl
-end-tests at n false false one es eo = refl
-end-tests at n false true true es eo = let le : n ≤ 1 = omega (arith, eqb-true n 1 eo) in sym (simp (le-ltb 1 n le))
-end-tests at n false true false es eo = let lt : 1 < n = omega (arith, ltb-false n 1 es, eqb-false n 1 eo) in sym (simp (lt-ltb 1 n lt))
+  -- a step after some tests
+  unless_then : (fs : List Fault) (good : Result X Refusal) → and_then (unless fs good) f ≡ unless fs (and_then good f)
+  unless_then [] good = refl
+  unless_then (t ∷ fs) good = by_found t.found _ (unless fs good) ∙ ap (cond t.found (refuse t.why t.place)) (unless_then fs good)
 
-module _ (m : PredictorMeaning) (q : ReadingMeaning) (axes room : ℕ) where
-  abbrev pub ended : List Axis × Rest → Result (Unit {0}) Refusal
-  ended x = end_at x.1.1 x.1.0
+-- further tests
+unless_more : {X : Type 0} (fs gs : List Fault) (good : Result X Refusal) → unless fs (unless gs good) ≡ unless (fs ++ gs) good
+unless_more [] gs good = refl
+unless_more (t ∷ fs) gs good = ap (cond t.found (refuse t.why t.place)) (unless_more fs gs good)
 
-  -- so many axes, and E
+-- a piece, what it says tested, and a step after it
+tested : {X Y Z : Type 0} (fs : List Fault) (x : X) (gs : X → List Fault) (k : X → Y) (f : Y → Result Z Refusal) →
+    and_then (and_then (unless fs (Ok x)) (λ y. unless (gs y) (Ok (k y)))) f ≡ unless (fs ++ gs x) (f (k x))
+tested fs x gs k f =
+    ap (λ r. and_then r f) (unless_then (λ y. unless (gs y) (Ok (k y))) fs (Ok x))
+    ∙ unless_then f fs (unless (gs x) (Ok (k x)))
+    ∙ ap (unless fs) (unless_then f (gs x) (Ok (k x)))
+    ∙ unless_more fs (gs x) (f (k x))
+
+module _ (o : Order) (m : PredictorMeaning) (q : ReadingMeaning) (axes room : ℕ) where
+  abbrev pub end_left : Rest → Result (Unit {0}) Refusal
+  end_left r = and_then (end_at r) nothing_follows
+
+  -- so many axes, E, and nothing more
   abbrev pub axes_left : ℕ → ℕ → Rest → Result (Unit {0}) Refusal
-  axes_left n a r = and_then (axes_at m q n a r) ended
+  axes_left n a r = and_then (axes_at o m q n a r) (λ x. end_left x.1)
 
-  abbrev pub body_left : ℕ → ℕ → Scale → ℕ → Rest → Result (Unit {0}) Refusal
-  body_left n a s len r = and_then (body_at m q n r.1 s len r.0) (λ cs. axes_left n a (drop len r.0, r.1 + len))
+  abbrev coded_left : ℕ → ℕ → Opened × Rest → Result (Unit {0}) Refusal
+  coded_left n a x = and_then (coded m x) (λ y. axes_left n a y.1)
 
-  abbrev pub size_left : ℕ → ℕ → Scale → Rest → Result (Unit {0}) Refusal
-  size_left n a s r = and_then (length_at r.1 r.0) (λ len. body_left n a s len (drop 5 r.0, r.1 + 5))
+  abbrev body_left : ℕ → ℕ → Scale → ℕ → Rest → Result (Unit {0}) Refusal
+  body_left n a s len r = and_then (body_at o q n len r) (λ b. coded_left n a (record { scale = s; stored = b.0; place = r.at }, b.1))
+
+  abbrev length_left : ℕ → ℕ → Scale → Rest → Result (Unit {0}) Refusal
+  length_left n a s r = and_then (taken (length_piece o) r) (λ v. body_left n a s v.0 v.1)
 
   abbrev pub left : Due → Rest → Result (Unit {0}) Refusal
-  left header r = and_then (head_at axes m.number q.number room r.0) (λ n. axes_left n axes (drop 8 r.0, r.1 + 8))
-  left (range n a) r = axes_left n (suc a) r
-  left (size n a s) r = size_left n a s r
+  left header r = and_then (head_at o m q axes room r) (λ h. axes_left h.0 axes h.1)
+  left (range n a) r = and_then (scale_at o r) (λ s. length_left n a s.0 s.1)
+  left (length n a s) r = length_left n a s r
   left (body n a s len) r = body_left n a s len r
-  left end r = end_at r.1 r.0
-  left nothing r = Ok tt
+  left end r = end_left r
+  left nothing r = nothing_follows r
+  left read r = Ok tt
 
-  abbrev pub beyond : Due → Rest → Rest
-  beyond d r = (drop (bytes_of d) r.0, r.1 + bytes_of d)
+  -- an axis is its three pieces
+  opened_left : (n a : ℕ) (r : Rest) → and_then (opened o q n r) (coded_left n a) ≡ left (range n a) r
+  unfolding opened
+  opened_left n a r =
+      then_then (scale_at o r) _ (coded_left n a)
+      ∙ then_same (scale_at o r) _ _ (λ s.
+      then_then (taken (length_piece o) s.1) _ (coded_left n a)
+      ∙ then_same (taken (length_piece o) s.1) _ _ (λ v. then_then (body_at o q n v.0 v.1) _ (coded_left n a)))
 
   axes-due : (n a : ℕ) (r : Rest) → axes_left n a r ≡ left (axes_due n a) r
   unfolding axes_at
   axes-due n zero r = refl
-  axes-due n (suc a) r = refl
+  axes-due n (suc a) r =
+      then_then (axis_at o m q n r) _ (λ x. end_left x.1)
+      ∙ then_same (axis_at o m q n r) _ (λ x. axes_left n a x.1) (λ x. then_then (axes_at o m q n a x.1) (with_axis x.0) (λ y. end_left y.1))
+      ∙ then_then (opened o q n r) (coded m) (λ x. axes_left n a x.1)
+      ∙ opened_left n a r
 
-  -- an axis is its three pieces
-  ended-more : (n : ℕ) (x : Axis) (y : Result (List Axis × Rest) Refusal) → and_then (more m q n x y) ended ≡ and_then y ended
-  ended-more n x (Ok y) = refl
-  ended-more n x (Err e) = refl
-
-  by_codes : (n a : ℕ) (s : Scale) (next : Rest) (u : Result (List ℤ) Refusal) →
-      and_then (and_then (and_then u (closed s next)) (λ x. more m q n x.0 (axes_at m q n a x.1))) ended ≡ and_then u (λ cs. axes_left n a next)
-  by_codes n a s next (Ok cs) = ended-more n (record { scale = s; codes = cs }) (axes_at m q n a next)
-  by_codes n a s next (Err e) = refl
-
-  by_length : (n a : ℕ) (s : Scale) (r : Rest) (u : Result ℕ Refusal) →
-      and_then (and_then (and_then u (λ len. and_then (body_at m q n (r.1 + 15) s len (drop 15 r.0)) (closed s (drop (15 + len) r.0, r.1 + (15 + len))))) (λ x. more m q n x.0 (axes_at m q n a x.1))) ended
-      ≡ and_then u (λ len. body_left n a s len (drop 5 (drop 10 r.0), r.1 + 10 + 5))
-  by_length n a s r (Ok len) =
-      let place : r.1 + 15 ≡ r.1 + 10 + 5 = omega arith in
-      let rest : drop 15 r.0 ≡ drop 5 (drop 10 r.0) = sym (drop-drop 5 10 r.0) in
-      let far : r.1 + (15 + len) ≡ r.1 + 15 + len = omega arith in
-      by_codes n a s (drop (15 + len) r.0, r.1 + (15 + len)) (body_at m q n (r.1 + 15) s len (drop 15 r.0))
-      ∙ ap₂ (λ (bs : List ℕ) (p : ℕ). and_then (body_at m q n (r.1 + 15) s len (drop 15 r.0)) (λ cs. axes_left n a (bs, p))) (sym (drop-drop len 15 r.0)) far
-      ∙ ap₂ (λ (bs : List ℕ) (p : ℕ). body_left n a s len (bs, p)) rest place
-  by_length n a s r (Err e) = refl
-
-  by-range : (n a : ℕ) (r : Rest) (u : Result Scale Refusal) →
-      and_then (and_then (and_then u (λ s. and_then (length_at (r.1 + 10) (drop 10 r.0)) (λ len. and_then (body_at m q n (r.1 + 15) s len (drop 15 r.0)) (closed s (drop (15 + len) r.0, r.1 + (15 + len)))))) (λ x. more m q n x.0 (axes_at m q n a x.1))) ended
-      ≡ and_then u (λ s. size_left n a s (drop 10 r.0, r.1 + 10))
-  by-range n a r (Ok s) = by_length n a s r (length_at (r.1 + 10) (drop 10 r.0))
-  by-range n a r (Err e) = refl
-
-  axis-left : (n a : ℕ) (r : Rest) → axes_left n (suc a) r ≡ and_then (range_at r.1 r.0) (λ s. size_left n a s (drop 10 r.0, r.1 + 10))
-  unfolding axes_at axis_at
-  axis-left n a r = by-range n a r (range_at r.1 r.0)
+  abbrev entries : ℕ → Rest → Result (List ℤ) Why → Result (List ℤ × Rest) Refusal
+  entries at next u = result_map_both (λ list. (list, next)) (λ why. refusal_at why at) u
 
   -- a body, by what the packing reads in it
-  body-codes : (n a at len : ℕ) (s : Scale) (bs : List ℕ) (rs : List ℤ) (b : Bool) → all_codes s (values m rs) ≡ b →
-      and_then (cond b (Ok (values m rs)) (refuse Code at)) (λ cs. axes_left n a (drop len bs, at + len)) ≡ cond (not b) (refuse Code at) (left (axes_due n a) (drop len bs, at + len))
-  body-codes n a at len s bs rs true e = axes-due n a (drop len bs, at + len)
-  body-codes n a at len s bs rs false e = refl
-
-  body-read : (n a at len : ℕ) (s : Scale) (bs : List ℕ) (x : Result (List ℤ) Why) → ((e : Why) → x ≡ Err e → (e ≡ BodyLength) ⊎ (e ≡ SpareBits)) →
-      and_then (undone m q n at s x) (λ cs. axes_left n a (drop len bs, at + len))
-      ≡ cond (refused_for BodyLength x) (refuse BodyLength at) (cond (refused_for SpareBits x) (refuse SpareBits at) (cond (strays m s x) (refuse Code at) (left (axes_due n a) (drop len bs, at + len))))
-  body-read n a at len s bs (Ok rs) why = body-codes n a at len s bs rs (all_codes s (values m rs)) refl
-  body-read n a at len s bs (Err e) why =
-      ⊎_elim
-      (λ (h : e ≡ BodyLength). subst (λ (w : Why). refuse w at ≡ cond (refused_for BodyLength (Err w)) (refuse BodyLength at) (cond (refused_for SpareBits (Err w)) (refuse SpareBits at) (left (axes_due n a) (drop len bs, at + len)))) (sym h) refl)
-      (λ (h : e ≡ SpareBits). subst (λ (w : Why). refuse w at ≡ cond (refused_for BodyLength (Err w)) (refuse BodyLength at) (cond (refused_for SpareBits (Err w)) (refuse SpareBits at) (left (axes_due n a) (drop len bs, at + len)))) (sym h) refl)
-      (why e refl)
-
-  body-left : (n a len : ℕ) (s : Scale) (r : Rest) (short : Bool) →
-      and_then (cond short (refuse Truncated r.1) (undone m q n r.1 s (q.reads n (take len r.0)))) (λ cs. axes_left n a (drop len r.0, r.1 + len))
-      ≡ cond short (refuse Truncated r.1) (and_then (undone m q n r.1 s (q.reads n (take len r.0))) (λ cs. axes_left n a (drop len r.0, r.1 + len)))
-  body-left n a len s r true = refl
-  body-left n a len s r false = refl
+  body-read : (n a at : ℕ) (s : Scale) (next : Rest) (u : Result (List ℤ) Why) → IfErr u (λ why. (why ≡ BodyLength) ⊎ (why ≡ SpareBits)) →
+      and_then (entries at next u) (λ b. coded_left n a (record { scale = s; stored = b.0; place = at }, b.1))
+      ≡ unless (body_faults u at ++ stray_codes m s u at) (left (axes_due n a) next)
+  body-read n a at s next (Ok list) why =
+      unless_then (λ y. axes_left n a y.1) (code_faults s (values m list) at) _ ∙ ap (unless (code_faults s (values m list) at)) (axes-due n a next)
+  body-read n a at s next (Err e) why =
+      let P : Why → Type 0 = λ w. ◌≡◌ {A = Result (Unit {0}) Refusal} (refuse w at) (unless (body_faults (Err w) at) (left (axes_due n a) next)) in
+      ⊎_elim (λ (h : e ≡ BodyLength). subst P (sym h) refl) (λ (h : e ≡ SpareBits). subst P (sym h) refl) why
 
   -- the piece that is due, and then what is left after it
-  pub piece-left : (d : Due) (r : Rest) → left d r ≡ judged_by (faults m q axes room d r) (left (after m q axes room d r.0) (beyond d r))
-  unfolding body_at
+  pub piece-left : (d : Due) (r : Rest) → left d r ≡ unless (faults o m q axes room d r) (left (after o m q axes room d r.bytes) (past (size_of o m q axes room d) r))
   piece-left header r =
-      header-tests (word r.0 4) (λ n. axes_left n axes (drop 8 r.0, r.1 + 8)) (ltb (length r.0) 8) (eqb (get_or r.0 0 0) 0x4E) (eqb (get_or r.0 1 0) axes) (eqb (get_or r.0 2 0) m.number) (eqb (get_or r.0 3 0) q.number) (ltb (word r.0 4) 2) (ltb 4096 (word r.0 4)) (ltb room (word r.0 4))
-      ∙ ap (judged_by (faults m q axes room header r)) (axes-due (word r.0 4) axes (drop 8 r.0, r.1 + 8))
-  piece-left (range n a) r =
-      axis-left n a r
-      ∙ range-tests r.1 (get_or r.0 1 0) (of_bits binary32 (word r.0 2)) (of_bits binary32 (word r.0 6)) (λ s. size_left n a s (drop 10 r.0, r.1 + 10)) (ltb (length r.0) 10) (eqb (get_or r.0 0 0) 0x51)
-      (leb 1 (get_or r.0 1 0) && leb (get_or r.0 1 0) 24) (good_end (of_bits binary32 (word r.0 2)) && good_end (of_bits binary32 (word r.0 6))) (lt_z (units_of (of_bits binary32 (word r.0 2))) (units_of (of_bits binary32 (word r.0 6))))
-  piece-left (size n a s) r = length-tests r.1 (word r.0 1) (λ len. body_left n a s len (drop 5 r.0, r.1 + 5)) (ltb (length r.0) 5) (eqb (get_or r.0 0 0) 0x56)
+      let h = (header_piece o).says r.bytes in
+      tested (piece_faults (header_piece o) r) (h, past 8 r) (λ x. header_faults m q axes room x.0 r.at) (λ x. (x.0.count, x.1)) (λ x. axes_left x.0 axes x.1)
+      ∙ ap (unless (faults o m q axes room header r)) (axes-due h.count axes (past 8 r))
+  piece-left (range n a) r = tested (piece_faults (range_piece o) r) ((range_piece o).says r.bytes, past 10 r) (λ w. range_faults w.0 r.at) (λ w. (scale_of w.0, w.1)) (λ s. length_left n a s.0 s.1)
+  piece-left (length n a s) r = unless_then (λ v. body_left n a s v.0 v.1) (piece_faults (length_piece o) r) _
   piece-left (body n a s len) r =
-      body-left n a len s r (ltb (length r.0) len)
-      ∙ ap (λ (y : Result (Unit {0}) Refusal). cond (ltb (length r.0) len) (refuse Truncated r.1) y) (body-read n a r.1 len s r.0 (q.reads n (take len r.0)) (q.refusals n (take len r.0)))
-  piece-left end r = end-tests r.1 (length r.0) (ltb (length r.0) 1) (eqb (get_or r.0 0 0) 0x45) (eqb (length r.0) 1) refl refl
+      let u = q.reads o n (take len r.bytes) in
+      let k = λ (b : List ℤ × Rest). coded_left n a (record { scale = s; stored = b.0; place = r.at }, b.1) in
+      ap (λ v. and_then v k) (unless_then _ (cut_short len r) _)
+      ∙ unless_then k (cut_short len r) _
+      ∙ ap (unless (cut_short len r)) (body-read n a r.at s (past len r) u (q.refusals o n (take len r.bytes)))
+      ∙ unless_more (cut_short len r) (body_faults u r.at ++ stray_codes m s u r.at) (left (axes_due n a) (past len r))
+  piece-left end r = tested (piece_faults end_piece r) _ (λ _. []) (λ e. e.1) nothing_follows
   piece-left nothing r = refl
+  piece-left read r = refl
 
-  pub rising : (d : Due) (r : Rest) → Rising 0 (faults m q axes room d r)
+  stray-rises : (s : Scale) (u : Result (List ℤ) Why) (at : ℕ) → Rising 16 (stray_codes m s u at)
+  stray-rises s (Ok list) at = (lit< tt, tt)
+  stray-rises s (Err e) at = tt
+
+  pub rising : (d : Due) (r : Rest) → Rising 0 (faults o m q axes room d r)
   rising header r = (lit< tt, (lit< tt, (lit< tt, (lit< tt, (lit< tt, (lit< tt, (lit< tt, tt)))))))
   rising (range n a) r = (lit< tt, (lit< tt, (lit< tt, (lit< tt, (lit< tt, tt)))))
-  rising (size n a s) r = (lit< tt, (lit< tt, tt))
-  rising (body n a s len) r = (lit< tt, (lit< tt, (lit< tt, (lit< tt, tt))))
-  rising end r = (lit< tt, (lit< tt, (lit< tt, tt)))
-  rising nothing r = tt
+  rising (length n a s) r = (lit< tt, (lit< tt, tt))
+  rising (body n a s len) r = (lit< tt, (lit< tt, (lit< tt, stray-rises s (q.reads o n (take len r.bytes)) r.at)))
+  rising end r = (lit< tt, (lit< tt, tt))
+  rising nothing r = (lit< tt, tt)
+  rising read r = tt

@@ -8,6 +8,7 @@ use Rattle.kinds.specs.Kind.{KindMeaning}
 use Rattle.range.specs.Scale.{Scale, place_in}
 use Rattle.panel.specs.Panel.{Axis}
 use Rattle.panel.specs.Placed.{place_at, vertex, placed}
+use Rattle.panel.proofs.Accepted.{IsAxis}
 use Rattle.load.specs.Filling.{moved, fill_on, fill_from}
 
 module _ {P : Type 0} (k : KindMeaning P) where
@@ -45,26 +46,26 @@ module _ {P : Type 0} (k : KindMeaning P) where
   thrice : (v w u : ℤ) (p : P) → k.axes ≡ 3 → moved k 2 u (moved k 1 w (moved k 0 v p)) ≡ k.make v w u
   thrice v w u p e = same3 _ v _ w u u (k.told _ w _ 0 (omega arith) ∙ k.told v _ _ 0 (omega arith)) (k.told _ w _ 1 (omega arith)) refl
 
-  each : (xs : List Axis) (n : ℕ) (old : List P) (i : ℕ) (d : P) → length xs ≡ k.axes → AllByRecursion (λ x. length x.codes ≡ n) xs → n ≤ length old → i < n →
+  each : (xs : List Axis) (n : ℕ) (old : List P) (i : ℕ) (d : P) → length xs ≡ k.axes → AllByRecursion (IsAxis n) xs → n ≤ length old → i < n →
       get_or (fill_from k 0 xs old) i d ≡ vertex k (record { count = n; axes = xs }) i
   unfolding fill_from place_at
   each [] n old i d count long room lt = absurd (omega (arith, k.some_axis))
   each (x ∷ []) n old i d count long room lt =
-      over-here 0 x.scale x.codes old i d (omega (arith, long.0)) (omega arith) ∙ once _ _ (sym count)
+      over-here 0 x.scale x.codes old i d (omega (arith, long.0.long)) (omega arith) ∙ once _ _ (sym count)
   each (x ∷ y ∷ []) n old i d count long room lt =
       let a = fill_on k 0 x.scale x.codes old in
       let la : length a ≡ length old = length-fill_on 0 x.scale x.codes old in
-      over-here 1 y.scale y.codes a i d (omega (arith, long.1.0)) (omega arith)
-      ∙ ap (moved k 1 _) (over-here 0 x.scale x.codes old i d (omega (arith, long.0)) (omega arith))
+      over-here 1 y.scale y.codes a i d (omega (arith, long.1.0.long)) (omega arith)
+      ∙ ap (moved k 1 _) (over-here 0 x.scale x.codes old i d (omega (arith, long.0.long)) (omega arith))
       ∙ twice _ _ _ (sym count)
   each (x ∷ y ∷ z ∷ []) n old i d count long room lt =
       let a = fill_on k 0 x.scale x.codes old in
       let la : length a ≡ length old = length-fill_on 0 x.scale x.codes old in
       let b = fill_on k 1 y.scale y.codes a in
       let lb : length b ≡ length a = length-fill_on 1 y.scale y.codes a in
-      over-here 2 z.scale z.codes b i d (omega (arith, long.1.1.0)) (omega arith)
-      ∙ ap (moved k 2 _) (over-here 1 y.scale y.codes a i d (omega (arith, long.1.0)) (omega arith)
-      ∙ ap (moved k 1 _) (over-here 0 x.scale x.codes old i d (omega (arith, long.0)) (omega arith)))
+      over-here 2 z.scale z.codes b i d (omega (arith, long.1.1.0.long)) (omega arith)
+      ∙ ap (moved k 2 _) (over-here 1 y.scale y.codes a i d (omega (arith, long.1.0.long)) (omega arith)
+      ∙ ap (moved k 1 _) (over-here 0 x.scale x.codes old i d (omega (arith, long.0.long)) (omega arith)))
       ∙ thrice _ _ _ _ (sym count)
   each (x ∷ y ∷ z ∷ w ∷ xs) n old i d count long room lt = absurd (omega (arith, k.few_axes))
 
@@ -73,12 +74,12 @@ module _ {P : Type 0} (k : KindMeaning P) where
   length-fills a [] old = refl
   length-fills a (x ∷ xs) old = length-fills (a + 1) xs (fill_on k a x.scale x.codes old) ∙ length-fill_on a x.scale x.codes old
 
-  past : (a : ℕ) (xs : List Axis) (n : ℕ) (old : List P) (i : ℕ) (d : P) → AllByRecursion (λ x. length x.codes ≡ n) xs → n ≤ i → get_or (fill_from k a xs old) i d ≡ get_or old i d
+  past : (a : ℕ) (xs : List Axis) (n : ℕ) (old : List P) (i : ℕ) (d : P) → AllByRecursion (IsAxis n) xs → n ≤ i → get_or (fill_from k a xs old) i d ≡ get_or old i d
   unfolding fill_from
   past a [] n old i d long ge = refl
-  past a (x ∷ xs) n old i d long ge = past (a + 1) xs n (fill_on k a x.scale x.codes old) i d long.1 ge ∙ over-past a x.scale x.codes old i d (omega (arith, long.0))
+  past a (x ∷ xs) n old i d long ge = past (a + 1) xs n (fill_on k a x.scale x.codes old) i d long.1 ge ∙ over-past a x.scale x.codes old i d (omega (arith, long.0.long))
 
-  pub points-are : (xs : List Axis) (n : ℕ) (old : List P) → length xs ≡ k.axes → AllByRecursion (λ x. length x.codes ≡ n) xs → n ≤ length old →
+  pub points-are : (xs : List Axis) (n : ℕ) (old : List P) → length xs ≡ k.axes → AllByRecursion (IsAxis n) xs → n ≤ length old →
       fill_from k 0 xs old ≡ placed k (record { count = n; axes = xs }) ++ drop n old
   unfolding placed
   points-are xs n old count long room =

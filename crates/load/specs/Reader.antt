@@ -1,16 +1,15 @@
 -- How far the reader of a file comes, the faults that a piece can have, and that the first fault is told.
-use Rattle.std.specs.Prelude.{◌≡◌, ℕ, zero, suc, ◌+◌, ◌≤◌, true, false, ◌⊎◌, List, [], ◌∷◌, ◌++◌, take, drop, Ok, Err, Result}
+use Rattle.std.specs.Prelude.{◌≡◌, ℕ, zero, suc, ◌+◌, ◌≤◌, true, false, ◌⊎◌, List, [], ◌∷◌, ◌++◌, take, drop, ℤ, Ok, Err, Result}
 use Rattle.std.specs.List.{AllByRecursion}
 use Rattle.words.specs.Order.{Order}
 use Rattle.refusal.specs.Numbers.{number_of}
 use Rattle.refusal.specs.declared.Why.{Why}
 use Rattle.refusal.specs.declared.Refusal.{Refusal}
 use Rattle.predict.specs.Predictor.{PredictorMeaning}
-use Rattle.predict.specs.Residues.{values}
-use Rattle.pack.specs.Packing.{ReadingMeaning, listed}
+use Rattle.pack.specs.Packing.{ReadingMeaning}
 use Rattle.range.specs.Scale.{Scale, scale_of}
 use Rattle.panel.specs.Layout.{Rest, rest_at, header_piece, range_piece, length_piece, end_piece}
-use Rattle.panel.specs.Faults.{Fault, piece_faults, header_faults, range_faults, cut_short, body_faults, code_faults, trailing_faults}
+use Rattle.panel.specs.Faults.{Fault, piece_faults, header_faults, range_faults, cut_short, body_faults, stray_codes, trailing_faults}
 
 -- the piece that is due: N; Q, V or a body with so many axes after it, in a panel of n vertices; E; nothing more; or the
 -- whole file is read
@@ -45,7 +44,7 @@ module _ (o : Order) (m : PredictorMeaning) (q : ReadingMeaning) (axes room : �
   faults (range n more) r = piece_faults (range_piece o) r ++ range_faults ((range_piece o).says r.bytes) r.at
   faults (length n more s) r = piece_faults (length_piece o) r
   faults (body n more s bytes) r =
-      let list : Result (List ℤ) Why = q.reads n (take bytes r.bytes) in
+      let list : Result (List ℤ) Why = q.reads o n (take bytes r.bytes) in
       cut_short bytes r ++ (body_faults list r.at ++ stray_codes m s list r.at)
   faults end r = piece_faults end_piece r
   faults nothing r = trailing_faults r

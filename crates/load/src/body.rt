@@ -1,5 +1,5 @@
 // A body as the packing reads it, and its codes.
-ghost use Rattle.std.specs.Prelude.{◌≡◌, ◌<◌, IfOk, length, slice_index_or, pos};
+ghost use Rattle.std.specs.Prelude.{◌≡◌, ◌<◌, IfOk, length, pos, slice_index_or};
 ghost use Rattle.std.specs.Iterator.{YieldsFirst, item_count};
 ghost use Rattle.kinds.specs.Count.{IsVertexCount};
 ghost use Rattle.predict.specs.Residues.{values};
@@ -9,37 +9,37 @@ use pack::Unpacking;
 use predict::{Before, Predictor};
 use refusal::Why;
 use std::marker::{Model, PhantomData};
+use words::ByteOrder;
 
 // A body that the packing accepts: it is the list that it means.
 #[derive(Drop)]
-pub struct Body<'a, Q: Unpacking> {
+pub struct Body<'a, O: ByteOrder, Q: Unpacking> {
     bytes: &'a [u8],
     count: VertexCount,
-    packing: PhantomData<Q>,
+    meaning: PhantomData<(O, Q)>,
 }
 
-impl<'a, Q: Unpacking> Model for Body<'a, Q> {
-    ghost use Rattle.std.specs.Prelude.{◌≡◌, ℤ, List, Ok};
-    ghost use Rattle.pack.specs.Packing.{listed};
+impl<'a, O: ByteOrder, Q: Unpacking> Model for Body<'a, O, Q> {
+    ghost use Rattle.std.specs.Prelude.{ℤ, List, [], IsOk};
+    ghost use Rattle.std.specs.Result.{result_unwrap_or};
 
     ghost Value = { List ℤ };
 
-    ghost view = { λ b. listed (Q.reading.reads b.count b.bytes.now) };
+    ghost view = { λ b. result_unwrap_or (Q.reading.reads O.order b.count b.bytes.now) [] };
 
-    ghost invariant = { λ b. let body = Q.reading.reads b.count b.bytes.now in
-        body ≡ Ok (listed body) };
+    ghost invariant = { λ b. IsOk (Q.reading.reads O.order b.count b.bytes.now) };
 }
 
-impl<'a, Q: Unpacking> Body<'a, Q> {
-    pub fn judge(bytes: &'a [u8], count: VertexCount) -> Result<Body<'a, Q>, Why>
-        ensures value { result ≡ Q.reading.reads count bytes.now }
+impl<'a, O: ByteOrder, Q: Unpacking> Body<'a, O, Q> {
+    pub fn judge(bytes: &'a [u8], count: VertexCount) -> Result<Body<'a, O, Q>, Why>
+        ensures value { result ≡ Q.reading.reads O.order count bytes.now }
         ensures long { IfOk result (λ b. length b ≡ count) }
     {
-        Q::judge(bytes, count)?;
+        Q::judge::<O>(bytes, count)?;
         Ok(Body {
             bytes,
             count,
-            packing: PhantomData,
+            meaning: PhantomData,
         })
     }
 
@@ -56,11 +56,11 @@ impl<'a, Q: Unpacking> Body<'a, Q> {
         ensures { result ≡ slice_index_or self.now i (pos 0) }
     {
         prove!(i < self.count.get());
-        Q::entry(self.bytes, self.count, i)
+        Q::entry::<O>(self.bytes, self.count, i)
     }
 
     // Its codes, one after another.
-    pub fn codes<P: Predictor>(self) -> Codes<'a, P, Q>
+    pub fn codes<P: Predictor>(self) -> Codes<'a, O, P, Q>
         ensures { result ≡ values P.means self.entry }
     {
         Codes {
@@ -74,14 +74,14 @@ impl<'a, Q: Unpacking> Body<'a, Q> {
 
 // The codes that are left, of which the next is that of entry `index`, with four codes before it.
 #[derive(Drop)]
-pub struct Codes<'a, P: Predictor, Q: Unpacking> {
-    body: Body<'a, Q>,
+pub struct Codes<'a, O: ByteOrder, P: Predictor, Q: Unpacking> {
+    body: Body<'a, O, Q>,
     index: usize,
     before: Before,
     predictor: PhantomData<P>,
 }
 
-impl<'a, P: Predictor, Q: Unpacking> Model for Codes<'a, P, Q> {
+impl<'a, O: ByteOrder, P: Predictor, Q: Unpacking> Model for Codes<'a, O, P, Q> {
     ghost use Rattle.std.specs.Prelude.{ℤ, ◌≤◌, List, length, drop};
     ghost use Rattle.predict.specs.Residues.{values_from};
 
@@ -92,7 +92,7 @@ impl<'a, P: Predictor, Q: Unpacking> Model for Codes<'a, P, Q> {
     ghost invariant = { λ c. c.index ≤ length c.body };
 }
 
-impl<'a, P: Predictor, Q: Unpacking> Iterator for Codes<'a, P, Q> {
+impl<'a, O: ByteOrder, P: Predictor, Q: Unpacking> Iterator for Codes<'a, O, P, Q> {
     type Item = i32;
 
     ghost next_gives = { YieldsFirst (λ left. left) };

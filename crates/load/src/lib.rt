@@ -8,13 +8,15 @@ mod piece;
 mod place;
 
 ghost use Rattle.std.specs.Prelude.{◌≡◌, length};
+ghost use Rattle.words.specs.Order.{low_first};
 ghost use Rattle.panel.specs.Placed.{load_of};
-ghost use Rattle.load.specs.Faults.{JudgedByTheFirstFault};
+ghost use Rattle.load.specs.Reader.{JudgedByTheFirstFault};
 
 use kinds::{PointKind, VertexCount};
 use pack::Unpacking;
 use predict::Predictor;
 use refusal::Refusal;
+use words::LowFirst;
 
 // Loads a file into the front of the points and answers how many there are. A file that is refused changes no point, and
 // its first fault is told.
@@ -24,9 +26,9 @@ pub fn load<K: PointKind + Copy, P: Predictor, Q: Unpacking>(
 ) -> Result<VertexCount, Refusal>
     ensures does { (result, points.new) ≡ load_of K.kind P.means Q.reading file.now points.old }
     ensures first { let room = length points.old in
-        JudgedByTheFirstFault P.means Q.reading K.kind.axes room file.now result }
+        JudgedByTheFirstFault low_first P.means Q.reading K.kind.axes room file.now result }
 {
-    let n = judge::file::<K, P, Q>(file, points.len())?;
-    place::place::<K, P, Q>(file, n, points);
+    let n = judge::file::<LowFirst, K, P, Q>(file, points.len())?;
+    place::place::<LowFirst, K, P, Q>(file, n, points);
     Ok(n)
 }

@@ -1,10 +1,12 @@
 // Places the vertices of a file that is judged, axis by axis.
-ghost use Rattle.std.specs.Prelude.{◌≡◌, ℕ, ◌≤◌, true, List, length, is_ok, Ok, Result};
+ghost use Rattle.std.specs.Prelude.{◌≡◌, ℕ, ◌≤◌, true, IsOk, List, length, Ok, Result};
 ghost use Rattle.refusal.specs.declared.Refusal.{Refusal};
 ghost use Rattle.predict.specs.Residues.{values};
-ghost use Rattle.panel.specs.Judging.{axes_at, all_codes, judged};
-ghost use Rattle.panel.specs.Placed.{load_of};
-ghost use Rattle.load.specs.Steps.{count_of};
+ghost use Rattle.panel.specs.Faults.{all_codes};
+ghost use Rattle.panel.specs.Layout.{header_piece};
+ghost use Rattle.panel.specs.Judging.{axes_at, judged};
+ghost use Rattle.panel.specs.Placed.{filled};
+ghost use Rattle.load.specs.Counted.{count_of};
 ghost use Rattle.load.specs.Filling.{moved, fill_on, fill_by};
 
 use crate::axis::Axis;
@@ -14,48 +16,49 @@ use pack::Unpacking;
 use panel::pieces::HEAD_SIZE;
 use predict::Predictor;
 use std::array;
+use words::ByteOrder;
 
 // The vertices of a file that is accepted. It stands apart, so that its frame is not held while a file is judged.
 #[inline(never)]
-#[tactic(auto, using(crate::proofs::Accepted::axes_accepted))]
-pub fn place<K: PointKind + Copy, P: Predictor, Q: Unpacking>(
+#[tactic(auto, using(crate::proofs::Placed::axes_accepted))]
+pub fn place<O: ByteOrder, K: PointKind + Copy, P: Predictor, Q: Unpacking>(
     file: &[u8],
     n: VertexCount,
     points: &mut [K],
 )
     requires room { n ≤ length points.old }
-    requires headed { HEAD_SIZE ≤ length file.now }
+    requires headed { (header_piece O.order).size ≤ length file.now }
     requires accepted { let room = length points.old in
-        count_of (judged P.means Q.reading K.kind.axes room file.now) ≡ Ok n }
-    ensures { ◌≡◌ {A = Result ℕ Refusal × List K} (Ok n, points.new)
-        (load_of K.kind P.means Q.reading file.now points.old) }
+        count_of (judged O.order P.means Q.reading K.kind.axes room file.now) ≡ Ok n }
+    ensures { let panel = judged O.order P.means Q.reading K.kind.axes (length points.old) file.now in
+        ◌≡◌ {A = Result ℕ Refusal × List K} (Ok n, points.new) (filled K.kind panel points.old) }
 {
-    place_axes::<K, P, Q>(Rest::of(file, HEAD_SIZE), n, points);
+    place_axes::<O, K, P, Q>(Rest::of(file, HEAD_SIZE), n, points);
 }
 
 // The vertices on each axis, where the axes are accepted.
 #[tactic(auto, using(crate::proofs::Walk::axis_opens, crate::proofs::Walk::no_axes), unfolding(crate::specs::Filling::fill_from))]
-fn place_axes<K: PointKind + Copy, P: Predictor, Q: Unpacking>(
+fn place_axes<O: ByteOrder, K: PointKind + Copy, P: Predictor, Q: Unpacking>(
     rest: Rest<'_>,
     n: VertexCount,
     points: &mut [K],
 )
     requires room { n ≤ length points.old }
-    requires accepted { is_ok (axes_at P.means Q.reading n K.kind.axes rest) ≡ true }
-    ensures { let axes = axes_at P.means Q.reading n K.kind.axes rest.entry in
+    requires accepted { IsOk (axes_at O.order P.means Q.reading n K.kind.axes rest) }
+    ensures { let axes = axes_at O.order P.means Q.reading n K.kind.axes rest.entry in
         points.new ≡ fill_by K.kind 0 axes points.old }
 {
     let mut left = rest;
     for number in 0..K::AXES {
-        let (axis, after) = Axis::<Q>::take(left, n).unwrap();
-        place_axis::<K, P, Q>(axis, number, points);
+        let (axis, after) = Axis::<O, Q>::take(left, n).unwrap();
+        place_axis::<O, K, P, Q>(axis, number, points);
         left = after;
     }
 }
 
 // The vertices on one axis, of which every code is one of the range.
-fn place_axis<K: PointKind + Copy, P: Predictor, Q: Unpacking>(
-    axis: Axis<'_, Q>,
+fn place_axis<O: ByteOrder, K: PointKind + Copy, P: Predictor, Q: Unpacking>(
+    axis: Axis<'_, O, Q>,
     number: usize,
     points: &mut [K],
 )

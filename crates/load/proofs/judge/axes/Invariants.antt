@@ -1,13 +1,10 @@
 use Rattle.std.proofs.Common.{◌≡◌, ◌-◌}
-use Rattle.panel.specs.Judging.{axes_at, all_codes}
-use Rattle.load.specs.Steps.{past_of}
+use Rattle.panel.specs.Judging.{axes_at}
+use Rattle.load.specs.Counted.{left_of}
 use Rattle.load.proofs.judge.axes.Given as goal
-
--- the codes that are left tell of the whole axis
-abbrev pub invariant-loop-code : goal.invariant-loop-code
-invariant-loop-code g l = all_codes l.axis.range l.code-iterator ≡ all_codes l.axis.range l.initial.code-iterator
 
 -- the axes that are left tell of them all
 abbrev pub invariant-loop : goal.invariant-loop
 invariant-loop g l =
-    past_of (axes_at g.P.Predictor.means g.Q.Unpacking.reading l.n (l.count - l.counter) l.left) ≡ past_of (axes_at g.P.Predictor.means g.Q.Unpacking.reading l.n l.count l.fn.rest)
+    left_of (axes_at g.O.ByteOrder.order g.P.Predictor.means g.Q.Unpacking.reading l.n (l.count - l.counter) l.left)
+    ≡ left_of (axes_at g.O.ByteOrder.order g.P.Predictor.means g.Q.Unpacking.reading l.n l.count l.fn.rest)
