@@ -1,5 +1,5 @@
 -- What a whole split leaves, and its answer.
-use Rattle.std.proofs.Common.{◌≡◌, ℕ, ◌+◌, ◌-◌, ◌<◌, ◌≤◌, List, length, None, ◌∙◌, arith}
+use Rattle.std.proofs.Common.{◌≡◌, ℕ, ◌+◌, ◌-◌, ◌≤◌, List, length, ◌∙◌, arith}
 use Rattle.kinds.specs.Kind.{KindMeaning}
 use Rattle.kinds.specs.Vertex.{Vertex, told}
 use Rattle.seam.specs.Seam.{pick, ends, tree_of}
@@ -12,21 +12,18 @@ use Rattle.seam.proofs.Heavy.{flat-near}
 use Rattle.seam.proofs.Marks.{ends-bare, ends-ones, Splits, tree-splits}
 use Rattle.seam.proofs.Vertices.{pick-inner}
 
-flat_near : (vs : List Vertex) (t a b : ℕ) → pick vs t (chord a b) ≡ None → (k : ℕ) → a < k → k < b → weight vs a b k ≤ limit vs t a b
-unfolding pick
-flat_near vs t a b e = flat-near (weight vs a b) (limit vs t a b) a b e
-
 module _ (vs : List Vertex) (t n : ℕ) (before ms : List ℕ) (some : 2 ≤ n) (fits : n ≤ length before) (e : ms ≡ marked (tree (pick vs t) (chord 0 (n - 1))) (ends n before)) where
   here : Splits (pick vs t) (chord 0 (n - 1)) (ends n before) (tree (pick vs t) (chord 0 (n - 1)))
   here = tree-splits (pick vs t) (pick-inner vs t) (chord 0 (n - 1)) (omega arith) (ends n before) (ends-bare n before some fits)
 
   pub kept_near : KeptNear vs t n ms
+  unfolding pick
   kept_near =
       let bare = ends-bare n before some fits in
       rw e (record {
         first = here.outside 0 (omega arith) ∙ bare.begins;
         last = here.outside (n - 1) (omega arith) ∙ bare.ends;
-        chords = λ p q h l ep eq none. flat_near vs t p q (here.chain p q (omega arith) h (omega arith) ep eq none);
+        chords = λ p q h l ep eq none. flat-near (weight vs p q) (limit vs t p q) p q (here.chain p q (omega arith) h (omega arith) ep eq none);
       })
 
   pub kept-ones : (r : ℕ) → r ≡ 2 + kept (tree (pick vs t) (chord 0 (n - 1))) → r ≡ ones n ms

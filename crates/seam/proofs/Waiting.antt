@@ -49,9 +49,6 @@ pub record Going (pick : Chord → Option ℕ) (last : ℕ) (before : List ℕ) 
 
 module _ {pick : Chord → Option ℕ} (law : Inner pick) {last : ℕ} {before : List ℕ} {ws : List Chord} {most count : ℕ} {x : Chord} {ms : List ℕ}
     (g : Going pick last before ws most count x ms) (small : last < 4096) where
-  few : waits (tree pick (chord 0 last)) ≤ 11
-  few = waits-few pick law (chord 0 last) (omega (arith, g.proper)) (omega arith)
-
   -- the chord in hand is split at c
   module _ {c : ℕ} (e : Some c ≡ pick x) where
     pub inner : (x.from < c) × (c < x.to)
@@ -70,7 +67,7 @@ module _ {pick : Chord → Option ℕ} (law : Inner pick) {last : ℕ} {before :
       gw = rw both.0 at g.waiting
 
       pub room : length ws < 11
-      room = omega (arith, gw, few, length-owed pick ws)
+      room = omega (arith, gw, waits-few pick law (chord 0 last) (omega (arith, g.proper)) (omega arith), length-owed pick ws)
 
       pub counted : count < 4096
       counted = omega (arith, gc, kept-fewer pick law (chord 0 last) (omega (arith, g.proper)))
@@ -116,9 +113,6 @@ module _ {pick : Chord → Option ℕ} (law : Inner pick) {last : ℕ} {before :
             proper = a.1;
             each = a.0;
           }
-
-      pub popped-less : turns count ws' < turns count ws
-      popped-less = omega (arith, n)
 
     -- and none waits: all is done
     pub ended : ws ≡ [] → (ms ≡ marked (tree pick (chord 0 last)) before) × (count ≡ kept (tree pick (chord 0 last))) × (most ≡ waits (tree pick (chord 0 last))) × (count < 4096)

@@ -2,7 +2,7 @@ use Rattle.std.proofs.Common.{◌≡◌, length, refl, arith}
 use Rattle.std.proofs.lemmas.List.{nil_from_length}
 use Rattle.seam.specs.Split.{parts_of}
 use Rattle.seam.specs.Seam.{tree_of}
-use Rattle.seam.proofs.Waiting.{inner, room, counted, pushed, pushed-less, popped, popped-less, ended}
+use Rattle.seam.proofs.Waiting.{inner, room, counted, pushed, pushed-less, popped, ended}
 use Rattle.seam.proofs.Vertices.{pick-inner}
 use Rattle.seam.proofs.line.Line.split_chords.Goals as goal
 
@@ -31,10 +31,6 @@ chords-smaller-in-Some g c =
 pub chords-preserved : goal.chords-preserved
 chords-preserved g c =
     popped (pick-inner _ _) c.chords.invariant (omega arith) c.in-None.ensures c.in-Some-pop.next c.pop.new.self.items c.in-Some-pop.ensures.items
-
-pub chords-smaller : goal.chords-smaller
-chords-smaller g c =
-    popped-less (pick-inner _ _) c.chords.invariant (omega arith) c.in-None.ensures c.in-Some-pop.next c.pop.new.self.items c.in-Some-pop.ensures.items
 
 pub returns : goal.returns
 unfolding tree_of
