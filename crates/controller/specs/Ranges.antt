@@ -4,8 +4,7 @@ use Rattle.std.specs.Option.{option_or}
 use Rattle.std.specs.List.{AllByRecursion}
 use Rattle.std.specs.Float.{binary32}
 use Rattle.refusal.specs.declared.Why.{Why}
-use Rattle.range.specs.Judged.{refusal}
-use Rattle.range.specs.Scale.{Scale, IsRange, scale_from}
+use Rattle.range.specs.Scale.{Scale, IsRange, refusal, scale_from}
 use Rattle.range.specs.declared.words.Words.{Words}
 
 -- the scale that the words of a range stand for

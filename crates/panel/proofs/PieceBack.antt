@@ -11,8 +11,7 @@ use Rattle.predict.specs.Residues.{start, residues, values}
 use Rattle.predict.proofs.Undone.{start-words, values-back, residues-words, length-residues}
 use Rattle.kinds.specs.Count.{IsVertexCount}
 use Rattle.pack.specs.Packing.{PackingMeaning}
-use Rattle.range.specs.Judged.{refusal}
-use Rattle.range.specs.Scale.{Scale, scale_from}
+use Rattle.range.specs.Scale.{Scale, refusal, scale_from}
 use Rattle.panel.specs.Words.{word}
 use Rattle.panel.specs.Written.{head_piece, range_piece, length_piece}
 use Rattle.panel.specs.Judging.{head_at, range_at, length_at, body_at, all_codes, scaled, scaled_by}

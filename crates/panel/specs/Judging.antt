@@ -10,8 +10,7 @@ use Rattle.refusal.specs.Refusals.{refusal_at}
 use Rattle.predict.specs.Predictor.{PredictorMeaning}
 use Rattle.predict.specs.Residues.{values}
 use Rattle.pack.specs.Packing.{ReadingMeaning}
-use Rattle.range.specs.Judged.{refusal}
-use Rattle.range.specs.Scale.{Scale, scale_from, is_code}
+use Rattle.range.specs.Scale.{Scale, is_code, refusal, scale_from}
 use Rattle.panel.specs.Words.{word}
 use Rattle.panel.specs.Panel.{Axis, Panel}
 
