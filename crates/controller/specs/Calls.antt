@@ -1,11 +1,9 @@
 -- What a cut and a store for C answer, and leave in the lists that they are lent.
-use Rattle.std.specs.Prelude.{ℕ, ◌-◌, ◌^◌, List, [], ◌∷◌, Some, None, Option, Ok, Err, Result, ◌==◌, if◌then◌else◌, from_bits}
-use Rattle.std.specs.Float.{binary32}
+use Rattle.std.specs.Prelude.{ℕ, ◌-◌, ◌^◌, List, [], ◌∷◌, Some, None, Option, Ok, Err, Result, ◌==◌, if◌then◌else◌}
 use Rattle.refusal.specs.declared.Why.{Why}
 use Rattle.refusal.specs.Refusals.{refuse}
 use Rattle.kinds.specs.Kind.{KindMeaning}
-use Rattle.range.specs.Judged.{refusal}
-use Rattle.range.specs.Scale.{Scale, scale_from}
+use Rattle.range.specs.Scale.{Scale, range_in}
 use Rattle.range.specs.declared.words.Words.{Words}
 use Rattle.pairing.specs.declared.Pairing.{Pairing}
 use Rattle.pairing.specs.Pairings.{predictor_of, packing_of, pairing_named, both}
@@ -16,18 +14,6 @@ use Rattle.bench.specs.Panels.{Seen, seen, one_panel}
 -- the tolerance that a number stands for: 2^32 - 1 stands for none
 abbrev pub tolerance_given : ℕ → Option ℕ
 tolerance_given t = if t == 2 ^ 32 - 1 then None else Some t
-
--- a range, unless there is a reason against it
-abbrev pub range_unless : Option Why → Scale → Result Scale Why
-range_unless None scale = Ok scale
-range_unless (Some why) scale = Err why
-
--- the range of words, or why there is none
-abbrev pub range_in : Words → Result Scale Why
-range_in w =
-    let lower = from_bits binary32 w.lower in
-    let upper = from_bits binary32 w.upper in
-    range_unless (refusal w.bits lower upper) (scale_from w.bits lower upper)
 
 -- the ranges of the axes, or the first refusal along them
 abbrev pub ranges_in : List Words → Result (List Scale) Why

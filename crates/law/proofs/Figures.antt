@@ -5,7 +5,7 @@ use Rattle.std.specs.Int.{int_wrap}
 use Rattle.predict.specs.Residues.{residues_from, values_from}
 use Rattle.pack.specs.Packing as P
 use Rattle.range.specs.Scale.{Scale, IsRange}
-use Rattle.range.specs.Units.{good_end, units_of, neg_zero, plain}
+use Rattle.range.specs.Units.{good_end, units_of, plain}
 use Rattle.range.specs.Scale.{code_in, place_in}
 use Rattle.panel.specs.Panel.{inside_on, codes_on, axes_from, inside_from}
 use Rattle.panel.specs.Written.{axis_bytes, file_of}
@@ -23,7 +23,7 @@ sixteen : Scale
 sixteen = record { bits = 4; lower = fin false 0 (pos 0); upper = fin false 1 (pos 4) }
 
 sixteen-is : IsRange sixteen
-unfolding sixteen good_end units_of neg_zero fits
+unfolding sixteen good_end units_of plain fits
 sixteen-is = record {
   wide = (lit≤ tt, lit≤ tt);
   low = (refl, refl);
@@ -33,7 +33,7 @@ sixteen-is = record {
 }
 
 pub run : Run
-unfolding sixteen of_bits to_bits good_end units_of neg_zero plain fits code_in place_in int_wrap residues_from values_from inside_on codes_on axes_from inside_from axis_bytes file_of all_codes opened axes_at panel_at judged place_at placed grow tree from_to m_of weights_from weight limit pick tree_of chain_bytes drawn
+unfolding sixteen of_bits to_bits good_end units_of plain fits code_in place_in int_wrap residues_from values_from inside_on codes_on axes_from inside_from axis_bytes file_of all_codes opened axes_at panel_at judged place_at placed grow tree from_to m_of weights_from weight limit pick tree_of chain_bytes drawn
 run = record {
   written = refl;
   marks = refl;

@@ -1,7 +1,7 @@
-// A range: a bit count and two ends in millimetres; the codes of design coordinates, and the places of codes.
-ghost use Rattle.std.specs.Prelude.{◌≡◌, ◌+◌, ◌*◌, ◌/◌, ◌^◌, ◌<◌, ◌≤◌, true, pos, ◌-ℤ◌, ◌<ℤ◌, if◌then◌else◌, Some, None, IfSome, unsigned_abs};
-ghost use Rattle.std.specs.Int.{int_div_euclid};
-ghost use Rattle.range.specs.Scale.{Made, Reads, IsCode, IsRange, code_in, highest, in_words, inside, is_code, lowest, place_in, quanta, said_by, width as width_of};
+// A range: a bit count and two ends in millimetres; codes of design coordinates, places of codes.
+ghost use Rattle.std.specs.Prelude.{◌≡◌, ◌+◌, ◌*◌, ◌^◌, ◌<◌, ◌≤◌, true, pos, ◌-ℤ◌, ◌+ℤ◌, ◌*ℤ◌, ◌≤ℤ◌, ◌<ℤ◌, if◌then◌else◌, Some, None, IfOk, IfSome, unsigned_abs};
+ghost use Rattle.range.specs.Units.{units_of};
+ghost use Rattle.range.specs.Scale.{IsCode, IsRange, code_in, highest, in_words, inside, is_code, lowest, nearest_whole, place_in, quanta, range_in, range_of, said_by, scale_from, width};
 
 use crate::ends::{
     FARTHEST_UNITS, MOST_BITS, end_units, end_word, is_below, is_end, without_sign_of_zero,
@@ -11,7 +11,7 @@ use refusal::Why;
 use std::marker::Model;
 use std::num::f32_from_bits_with_nan;
 
-// The bits are 1 to 24, the ends whole units, the lower below the upper, and neither is negative zero.
+// The bits are 1 to MOST_BITS, the ends whole units, the lower below the upper, and neither is -0.0.
 #[derive(Clone, Copy)]
 pub struct Range {
     bits: u8,
@@ -34,7 +34,11 @@ impl Model for Range {
 impl Range {
     // The bits are judged first, then the ends, then their order.
     pub fn new(bits: u8, lower: f32, upper: f32) -> Result<Range, Why>
-        ensures { Made bits lower upper result }
+        ensures value { result ≡ range_of bits lower upper }
+        ensures sound { IfOk result IsRange }
+        ensures given { IfOk result (λ s. s ≡ scale_from bits lower upper) }
+        ensures lower { IfOk result (λ s. lowest s ≡ units_of lower) }
+        ensures upper { IfOk result (λ s. highest s ≡ units_of upper) }
     {
         if !(1..=MOST_BITS).contains(&bits) {
             return Err(Why::Bits);
@@ -108,9 +112,9 @@ impl Range {
         ensures bound { unsigned_abs result < 2 ^ MOST_BITS }
     {
         let from = self.from_lower(v);
-        let span = self.span();
-        let top = u64::from(self.top());
-        nearest(from * top, span) as i32
+        let width = self.width();
+        let quanta = u64::from(self.top());
+        nearest(from * quanta, width) as i32
     }
 
     // The place of a number in steps, if it is a code.
@@ -129,8 +133,8 @@ impl Range {
     }
 
     // The upper end less the lower one, in units.
-    fn span(&self) -> u64
-        ensures value { result ≡ width_of self.now }
+    fn width(&self) -> u64
+        ensures value { result ≡ width self.now }
         ensures bound { (0 < result) × (result ≤ 2 * FARTHEST_UNITS) }
     {
         u64::from(end_units(self.upper).abs_diff(end_units(self.lower)))
@@ -140,7 +144,7 @@ impl Range {
     fn from_lower(&self, v: i32) -> u64
         requires { inside self.now v ≡ true }
         ensures value { v -ℤ lowest self.now ≡ pos result }
-        ensures bound { result ≤ width_of self.now }
+        ensures bound { result ≤ width self.now }
     {
         u64::from(v.abs_diff(self.lower_units()))
     }
@@ -151,10 +155,10 @@ impl Range {
         ensures { result ≡ place_in self.now (pos code) }
     {
         let lo = i64::from(end_units(self.lower));
-        let span = self.span() as i64;
-        let top = i64::from(self.top());
-        let n = top * lo + i64::from(code) * span;
-        floor_of(n + 8 * top, 16 * top) as i32
+        let width = self.width() as i64;
+        let quanta = i64::from(self.top());
+        let n = product(quanta, lo) + product(i64::from(code), width);
+        nearest_signed(n, 8 * quanta) as i32
     }
 }
 
@@ -162,7 +166,7 @@ impl Range {
 impl TryFrom<Words> for Range {
     type Error = Why;
 
-    ghost try_from_gives = { Reads };
+    ghost try_from_gives = { λ words result. (result ≡ range_in words) × IfOk result IsRange };
 
     fn try_from(words: Words) -> Result<Range, Why> {
         Range::new(
@@ -199,15 +203,26 @@ fn values_of(bits: u8) -> u32
 fn nearest(n: u64, d: u64) -> u64
     requires above { 0 < d }
     requires small { (n < 2 ^ 60) × (d < 2 ^ 60) }
-    ensures { result ≡ (2 * n + d) / (2 * d) }
+    ensures { pos result ≡ nearest_whole (pos (2 * n)) d }
 {
     (2 * n + d) / (2 * d)
 }
 
-// The floor of n / d, also below zero.
-fn floor_of(n: i64, d: i64) -> i64
-    requires { pos 0 <ℤ d }
-    ensures { result ≡ int_div_euclid n d }
+// The whole number nearest to n / (2 h), the upper one of two, also below zero.
+fn nearest_signed(n: i64, h: i64) -> i64
+    requires above { pos 0 <ℤ h }
+    requires small { (unsigned_abs n < 2 ^ 60) × (unsigned_abs h < 2 ^ 60) }
+    ensures { result ≡ nearest_whole n (unsigned_abs h) }
 {
-    n.div_euclid(d)
+    (n + h).div_euclid(2 * h)
+}
+
+// A code or a count of quanta times a length in units.
+fn product(quanta: i64, units: i64) -> i64
+    requires quanta { unsigned_abs quanta < 2 ^ MOST_BITS }
+    requires units { unsigned_abs units ≤ 2 * FARTHEST_UNITS }
+    ensures value { result ≡ quanta *ℤ units }
+    ensures bound { unsigned_abs result ≤ 2 ^ MOST_BITS * (2 * FARTHEST_UNITS) }
+{
+    quanta * units
 }

@@ -1,13 +1,18 @@
 -- Numbers behind zeros: what a format's width writes, and the last digits of a number that has no more.
-use Rattle.std.proofs.Common.{◌≡◌, ℕ, zero, suc, ◌+◌, ◌-◌, ◌/◌, ◌%◌, ◌^◌, ◌<◌, ◌≤◌, List, [], ◌∷◌, ◌++◌, length, replicate, refl, sym, ap, ◌∙◌, ⊎_elim, arith, false, codes, append-nil, append_assoc, length-append}
+use Rattle.std.proofs.Common.{◌≡◌, ℕ, zero, suc, ◌+◌, ◌-◌, ◌/◌, ◌%◌, ◌^◌, ◌<◌, ◌≤◌, List, [], ◌∷◌, ◌++◌, length, replicate, refl, sym, ap, ap₂, ◌∙◌, ⊎_elim, arith, false, codes, append-nil, append_assoc, length-append}
 use Rattle.std.proofs.Math.Nat.{div-div-eq-div-mul, pow-succ'}
 use Rattle.std.proofs.lemmas.Bool.Decides.{leb_tells}
 use Rattle.std.proofs.lemmas.Fmt.{decimal_digit, decimal_step}
 use Rattle.std.proofs.lemmas.List.{replicate_more}
 use Rattle.std.specs.Fmt.{decimal, padded_integral, char_count, format_spec}
 use Rattle.refusal.specs.declared.Refusal.{Refusal}
-use Rattle.refusal.specs.Line.{digits, padded_decimal, line_of, text_of}
 use Rattle.refusal.specs.Numbers.{number_of}
+use Rattle.refusal.specs.Refusals.{refusal_at, padded_decimal, line_of, text_of}
+
+-- the last k decimal digits of n, in ASCII
+abbrev pub digits : ℕ → ℕ → List ℕ
+digits zero n = []
+digits (suc k) n = (48 + n / 10 ^ k % 10) ∷ digits k n
 
 -- what `{:0k}` writes
 pub width_written : (k n : ℕ) → padded_integral (format_spec 32 0 4 k (2 ^ 64 - 1)) false [] (decimal n) ≡ padded_decimal k n
@@ -49,10 +54,24 @@ few_digits (suc k) n below fits =
     ∙ ap (λ xs. xs ++ (48 + n % 10) ∷ []) (few_digits k (n / 10) (omega (arith, below, pow-succ' 10 (suc k))) (omega arith))
     ∙ ⊎_elim (λ long. one_more k n long.1 fits) (λ short. only_one k n short.1) (leb_tells 10 n)
 
--- the line is the text, where the place has no more than five digits
-pub line_as_text : (e : Refusal) → number_of e.why < 100 → e.place < 100000 → line_of e ≡ text_of e ++ codes "\n"
-line_as_text e few below =
+-- the last five digits are those of what is left of a number
+last_five : (n : ℕ) → digits 5 n ≡ padded_decimal 5 (n % 10 ^ 5)
+last_five n =
+    let a : n % 10 ^ 5 / 10 ^ 4 % 10 ≡ n / 10 ^ 4 % 10 = omega arith in
+    let b : n % 10 ^ 5 / 10 ^ 3 % 10 ≡ n / 10 ^ 3 % 10 = omega arith in
+    let c : n % 10 ^ 5 / 10 ^ 2 % 10 ≡ n / 10 ^ 2 % 10 = omega arith in
+    let d : n % 10 ^ 5 / 10 ^ 1 % 10 ≡ n / 10 ^ 1 % 10 = omega arith in
+    let e : n % 10 ^ 5 / 1 % 10 ≡ n / 1 % 10 = omega arith in
+    let low : n % 10 ^ 5 < 10 ^ 5 = omega arith in
+    rw (← a, ← b, ← c, ← d, ← e) refl ∙ few_digits 4 (n % 10 ^ 5) low (omega (arith, low))
+
+-- the line, digit by digit
+pub by_digits : (e : Refusal) (bs : List ℕ) → number_of e.why < 100
+    → bs ≡ codes "refused " ++ (digits 2 (number_of e.why) ++ (codes " at " ++ (digits 5 e.place ++ codes "\n"))) → bs ≡ line_of e
+by_digits e bs few is =
     let line : List ℕ → List ℕ → List ℕ = λ number place. codes "refused " ++ (number ++ (codes " at " ++ (place ++ codes "\n"))) in
-    ap (λ number. line number (digits 5 e.place)) (few_digits 1 (number_of e.why) few (omega (arith, few)))
-    ∙ ap (λ place. line (padded_decimal 2 (number_of e.why)) place) (few_digits 4 e.place below (omega (arith, below)))
-    ∙ simp append_assoc
+    is ∙ ap₂ line (few_digits 1 (number_of e.why) few (omega (arith, few))) (last_five e.place) ∙ simp append_assoc
+
+-- five digits hold a place below 100,000
+pub whole_place : (e : Refusal) → e.place < 100000 → line_of e ≡ text_of e ++ codes "\n"
+whole_place e below = ap (λ place. text_of (refusal_at e.why place) ++ codes "\n") (omega (arith, below))
