@@ -1,7 +1,9 @@
 // A range: a bit count and two ends in millimetres; codes of design coordinates, places of codes.
-ghost use Rattle.std.specs.Prelude.{◌≡◌, ◌+◌, ◌*◌, ◌^◌, ◌<◌, ◌≤◌, true, pos, ◌-ℤ◌, ◌+ℤ◌, ◌*ℤ◌, ◌≤ℤ◌, ◌<ℤ◌, if◌then◌else◌, Some, None, IfOk, IfSome, unsigned_abs};
+ghost use Rattle.std.specs.Prelude.{◌≡◌, ◌+◌, ◌*◌, ◌^◌, ◌<◌, ◌≤◌, true, pos, ◌-ℤ◌, ◌+ℤ◌, ◌*ℤ◌, ◌≤ℤ◌, ◌<ℤ◌, if◌then◌else◌, Some, None, IfOk, IfSome, from_bits, unsigned_abs};
+ghost use Rattle.std.specs.Float.{binary32};
+ghost use Rattle.std.specs.Result.{result_err};
 ghost use Rattle.range.specs.Units.{units_of};
-ghost use Rattle.range.specs.Scale.{IsCode, IsRange, code_in, highest, in_words, inside, is_code, lowest, nearest_whole, place_in, quanta, range_in, range_of, said_by, scale_from, width};
+ghost use Rattle.range.specs.Scale.{IsCode, IsRange, code_in, highest, in_words, inside, is_code, lowest, nearest_whole, place_in, quanta, range_of, refusal, said_by, scale_from, width};
 
 use crate::ends::{
     FARTHEST_UNITS, MOST_BITS, end_units, end_word, is_below, is_end, without_sign_of_zero,
@@ -35,6 +37,7 @@ impl Range {
     // The bits are judged first, then the ends, then their order.
     pub fn new(bits: u8, lower: f32, upper: f32) -> Result<Range, Why>
         ensures value { result ≡ range_of bits lower upper }
+        ensures refused { refusal bits lower upper ≡ result_err result }
         ensures sound { IfOk result IsRange }
         ensures given { IfOk result (λ s. s ≡ scale_from bits lower upper) }
         ensures lower { IfOk result (λ s. lowest s ≡ units_of lower) }
@@ -166,7 +169,14 @@ impl Range {
 impl TryFrom<Words> for Range {
     type Error = Why;
 
-    ghost try_from_gives = { λ words result. (result ≡ range_in words) × IfOk result IsRange };
+    ghost try_from_gives = { λ words result.
+        let bits = words.bits in
+        let lower = from_bits binary32 words.lower in
+        let upper = from_bits binary32 words.upper in
+        (result ≡ range_of bits lower upper)
+        × (refusal bits lower upper ≡ result_err result)
+        × IfOk result IsRange
+        × IfOk result (λ s. s ≡ scale_from bits lower upper) };
 
     fn try_from(words: Words) -> Result<Range, Why> {
         Range::new(
