@@ -8,6 +8,7 @@ ghost use Rattle.bench.specs.Knife.{answer_for, program_for, answer_of, program_
 use kinds::PointKind;
 use refusal::Why;
 use std::marker::{Model, PhantomData};
+use words::{ByteOrder, LowFirst};
 
 // The letters of the commands.
 const TRAVEL: u8 = b'T';
@@ -146,15 +147,15 @@ impl<S> Knife<S> {
         letter: u8,
         to: &K,
     ) -> Result<Knife<T>, (Why, Knife<S>)>
-        ensures answer { let bytes = letter ∷ spelled (steps K.kind to.now) in
+        ensures answer { let bytes = letter ∷ spelled low_first (steps K.kind to.now) in
             result ≡ answer_of program.old self bytes }
-        ensures program { let bytes = letter ∷ spelled (steps K.kind to.now) in
+        ensures program { let bytes = letter ∷ spelled low_first (steps K.kind to.now) in
             program.new ≡ program_of program.old self bytes }
     {
         let at = self.at;
         let knife: Knife<T> = self.advance(program, letter, move_size::<K>())?;
         for axis in 0..K::AXES {
-            let word = to.coordinate(axis).to_le_bytes();
+            let word = LowFirst::write_signed(to.coordinate(axis));
             let place = at + 1 + 4 * axis;
             program[place..place + 4].copy_from_slice(&word);
         }
