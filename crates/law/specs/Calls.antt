@@ -1,5 +1,5 @@
--- The bench with its lists, and what each call does to them; and lists of calls: what they lead to, which are accepted,
--- and what each cut draws.
+-- The bench with its lists, and what each call does to them; and lists of calls: what they lead to,
+-- which are accepted, and what each cut draws.
 use Rattle.std.specs.Prelude.{ℕ, ◌+◌, ◌-◌, Bool, true, false, cond, ◌&&◌, List, [], ◌∷◌, ◌++◌, length, take, drop, Some, None, Ok, Err, Option, Result, unwrap_or, ◌==◌, nat_lt, nat_le, slice_index}
 use Rattle.refusal.specs.declared.Why.{Why}
 use Rattle.refusal.specs.declared.Why.TheVariants.{AlreadyClosed, TooEarly, ShortList, Unfit, NoSpace}
@@ -161,7 +161,8 @@ module _ {P : Type 0} (k : KindMeaning P) where
       Option Why → ℕ → ℕ → Desk → List P → List ℕ → Result ((ℕ × ℕ) × Desk × List ℕ) Refusal
   new_marks why n t d points marks =
       let tree = tree_of k t n (take n points) in
-      unless why ((2 + kept tree, waits tree), record d { stage = Split n }, marked tree (ends n marks))
+      unless why
+      ((2 + kept tree, waits tree), record d { stage = Split n }, marked tree (ends n marks))
 
   abbrev pub split_on : Option ℕ → Desk → List P → List ℕ → Done (ℕ × ℕ) (List ℕ)
   split_on t d points marks = settled d marks (and_then (admitted d.stage event.Split) (λ count.
@@ -177,7 +178,8 @@ module _ {P : Type 0} (k : KindMeaning P) where
   why_cut n at points marks program =
       cond (short_list n points marks) (Some ShortList)
       (cond (slice_index marks 0 == 1 && slice_index marks (n - 1) == 1)
-      (cond (nat_le (at + (chain_size (ones n marks) k.axes + 1)) (length program)) None (Some NoSpace))
+      (cond (nat_le (at + (chain_size (ones n marks) k.axes + 1)) (length program))
+      None (Some NoSpace))
       (Some Unfit))
 
   -- cut: the chain
@@ -197,14 +199,15 @@ effect report lists done = record {
 -- one call
 abbrev pub step : {P : Type 0} → KindMeaning P → State P → Call → Effect P
 step k s (load l) =
-    effect Vertices (λ points. record s.lists { points = points }) (load_on k l s.desk s.lists.points)
+    effect Vertices (λ ps. record s.lists { points = ps }) (load_on k l s.desk s.lists.points)
 step k s (split t) =
-    effect Counts (λ marks. record s.lists { marks = marks }) (split_on k t s.desk s.lists.points s.lists.marks)
+    effect Counts (λ ms. record s.lists { marks = ms })
+    (split_on k t s.desk s.lists.points s.lists.marks)
 step k s cut =
-    effect Length (λ program. record s.lists { program = program })
+    effect Length (λ bs. record s.lists { program = bs })
     (cut_on k s.desk s.lists.points s.lists.marks s.lists.program)
 step k s close =
-    effect Length (λ program. record s.lists { program = program }) (close_on s.desk s.lists.program)
+    effect Length (λ bs. record s.lists { program = bs }) (close_on s.desk s.lists.program)
 
 -- ---- lists of calls on one bench
 

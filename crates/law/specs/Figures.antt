@@ -36,7 +36,8 @@ hook =
 abbrev pub calls : List Call
 calls =
     cut ∷ load (load_of lag1 plain.reading straight) ∷ split None ∷ cut
-    ∷ split (Some 257) ∷ load (load_of lag1 fielded.reading hook) ∷ split None ∷ cut ∷ close ∷ cut ∷ []
+    ∷ split (Some 257) ∷ load (load_of lag1 fielded.reading hook) ∷ split None ∷ cut ∷ close
+    ∷ cut ∷ []
 
 -- a flat point
 abbrev pub point : ℕ → ℕ → Flat
@@ -65,7 +66,8 @@ pub record Run : Type 0 where
       load (load_of lag1 plain.reading straight) ∷ split None ∷ cut
       ∷ load (load_of lag1 fielded.reading hook) ∷ split None ∷ cut ∷ close ∷ []
   pub ranges : List Scale
-  pub first : Stored flat (load_of lag1 plain.reading straight) ranges (point 0 0 ∷ point 4096 2000 ∷ [])
+  pub first : Stored flat (load_of lag1 plain.reading straight) ranges
+      (point 0 0 ∷ point 4096 2000 ∷ [])
   pub second : Stored flat (load_of lag1 fielded.reading hook) ranges
       (point 0 0 ∷ point 2000 0 ∷ point 4096 0 ∷ point 4096 4096 ∷ point 0 4096 ∷ [])
 

@@ -101,7 +101,8 @@ module _ {P : Type 0} (k : KindMeaning P) where
     pub before : List ℕ
     pub size : ℕ
     pub after : List ℕ
-    pub stores : ◌≡◌ {A = StoreOutcome} (store_of k l.predictor packing design gs room before) (Ok size, after)
+    pub stores :
+        ◌≡◌ {A = StoreOutcome} (store_of k l.predictor packing design gs room before) (Ok size, after)
     pub file : take size after ≡ l.file
 
   -- stroke number n of the chain is one that vertex i of the design is off by little
@@ -133,7 +134,8 @@ module _ {P : Type 0} (k : KindMeaning P) where
     pub begins : c.from ≡ steps k (vertex k panel 0)
     pub ends : stroke_to c (length c.strokes - 1) ≡ steps k (vertex k panel (panel.count - 1))
     pub never_back : (gs : List Scale) (design : List P) → Stored w.panel gs design →
-        (stroke : ℕ → ℕ) × ((i : ℕ) → i < length design → ByStroke w.tolerance gs design c i (stroke i)) ×
+        (stroke : ℕ → ℕ) ×
+        ((i : ℕ) → i < length design → ByStroke w.tolerance gs design c i (stroke i)) ×
         ((i j : ℕ) → i ≤ j → j < length design → stroke i ≤ stroke j)
 
   -- A program, after these accepted calls, misplaces no panel:
