@@ -15,13 +15,17 @@ use Rattle.panel.specs.Stored.{Outcome, store_of}
 -- A store that says yes wrote the file of points that lie in their ranges.
 abbrev pub StoresTheFile : {P : Type 0} → KindMeaning P → Type 0
 StoresTheFile {P} k =
-    (m : PredictorMeaning) (q : PackingMeaning) (ps : List P) (gs : List Scale) (room : ℕ) (old : List ℕ) (n : ℕ) (out : List ℕ)
+    (m : PredictorMeaning) (q : PackingMeaning) (ps : List P) (gs : List Scale)
+    → (room : ℕ) (old : List ℕ) (n : ℕ) (out : List ℕ)
     → ◌≡◌ {A = Outcome} (store_of k m q ps gs room old) (Ok n, out)
-    → IsVertexCount (length ps) × (all_inside k gs ps ≡ true) × (take n out ≡ file_of low_first m q (panel_of k gs ps))
+    → IsVertexCount (length ps) × (all_inside k gs ps ≡ true)
+    × (take n out ≡ file_of low_first m q (panel_of k gs ps))
 
 -- The file of points that lie in their ranges is accepted where the point list has room, and means their panel.
 abbrev pub EveryFileReadBack : {P : Type 0} → KindMeaning P → Type 0
 EveryFileReadBack {P} k =
-    (o : Order) (m : PredictorMeaning) (q : PackingMeaning) (ps : List P) (gs : List Scale) (room : ℕ)
-    → AllByRecursion IsRange gs → IsVertexCount (length ps) → length ps ≤ room → k.axes ≤ length gs → all_inside k gs ps ≡ true
+    (o : Order) (m : PredictorMeaning) (q : PackingMeaning)
+    → (ps : List P) (gs : List Scale) (room : ℕ)
+    → AllByRecursion IsRange gs → IsVertexCount (length ps) → length ps ≤ room
+    → k.axes ≤ length gs → all_inside k gs ps ≡ true
     → judged o m q.reading k.axes room (file_of o m q (panel_of k gs ps)) ≡ Ok (panel_of k gs ps)

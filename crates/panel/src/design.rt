@@ -70,11 +70,11 @@ impl<'a, K: PointKind> Design<'a, K> {
     }
 
     // How many bytes the file takes.
+    #[tactic(auto, using(crate::proofs::Axes::inside_each, crate::proofs::Axes::length_next))]
     fn file_length<O: ByteOrder, P: Predictor, Q: Packing>(&self, work: &mut [i32]) -> usize
         requires { length work.old ≡ length self.now.points.now }
-        ensures size { let panel = panel_on K.kind self.now.ranges.now self.now.points.now in
+        ensures { let panel = panel_on K.kind self.now.ranges.now self.now.points.now in
             result ≡ length (file_of O.order P.means Q.means panel) }
-        ensures work { length work.new ≡ length work.old }
     {
         let mut size: usize = HEAD_SIZE + END_SIZE;
         for (axis, range) in self.ranges.iter().enumerate() {
@@ -85,7 +85,7 @@ impl<'a, K: PointKind> Design<'a, K> {
     }
 
     // Writes it to the front of `file`; what follows stays.
-    #[tactic(auto, unfolding(crate::specs::Written::file_of))]
+    #[tactic(auto, unfolding(crate::specs::Written::file_of), using(crate::proofs::Axes::inside_each, crate::proofs::Axes::length_file))]
     fn write<O: ByteOrder, P: Predictor, Q: Packing>(&self, work: &mut [i32], file: &mut [u8])
         requires work { length work.old ≡ length self.now.points.now }
         requires space { let panel = panel_on K.kind self.now.ranges.now self.now.points.now in

@@ -8,21 +8,6 @@ use Rattle.panel.proofs.Overwriting.{over-more, over-one}
 use Rattle.panel.proofs.Sound.{length-axes}
 use Rattle.panel.proofs.design.Design.write.Goals as goal
 
-pub put-requires : goal.put-requires
-put-requires g c =
-    let s = c.args.self.now in
-    omega (
-      arith,
-      length_file g.O.ByteOrder.order g.P.Predictor.means g.Q.Packing.means (panel_on g.K.PointKind.kind s.ranges.now s.points.now),
-      ap length c.head_piece-head.ensures,
-      g.O.ByteOrder.order.four (length s.points.now),
-    )
-
-pub fill-requires-clause-inside : goal.fill-requires-clause-inside
-fill-requires-clause-inside g c =
-    let s = c.args.self.now in
-    inside_each g.K.PointKind.kind s.points.now s.ranges.now c.loop-axis.axis c.range-item.result c.loop-axis-test.true c.range-item.is s.inside
-
 pub write_axis-at-requires-clause-space : goal.write_axis-at-requires-clause-space
 write_axis-at-requires-clause-space g c =
     let o = g.O.ByteOrder.order in
