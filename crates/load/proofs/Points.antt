@@ -1,15 +1,24 @@
--- Points placed axis by axis are the panel's. Assumes nothing.
-use Rattle.std.proofs.Common.{◌≡◌, ℕ, zero, suc, ◌+◌, ◌-◌, ◌<◌, ◌≤◌, List, [], ◌∷◌, ◌++◌, map, length, get_or, drop, ℤ, pos, sym, refl, ap, ◌∙◌, ⊎_elim, arith, length-append, length-drop}
+-- The points of an accepted file, filled axis by axis, are the panel's. Assumes nothing.
+use Rattle.std.proofs.Common.{◌≡◌, ℕ, zero, suc, ◌+◌, ◌-◌, ◌<◌, ◌≤◌, List, [], ◌∷◌, ◌++◌, map, length, get_or, drop, ℤ, pos, sym, refl, ap, ◌∙◌, ⊎_elim, arith, length-append, length-drop, Ok, Result, ap₂, is_ok}
 use Rattle.std.specs.List.{AllByRecursion, range_with_len}
 use Rattle.std.proofs.lemmas.List.{same_lists, get_or_append_left, get_or-append_right, get_or-drop}
 use Rattle.std.proofs.lemmas.List.FromFn.{length-map-range_with_len, get_or-map-range_with_len}
 use Rattle.std.proofs.lemmas.Bool.{cases_lt}
 use Rattle.kinds.specs.Kind.{KindMeaning}
 use Rattle.range.specs.Scale.{Scale, place_in}
-use Rattle.panel.specs.Panel.{Axis}
-use Rattle.panel.specs.Placed.{place_at, vertex, placed}
-use Rattle.panel.proofs.Accepted.{IsAxis}
-use Rattle.load.specs.Filling.{moved, fill_on, fill_from}
+use Rattle.panel.specs.Panel.{Axis, Panel}
+use Rattle.panel.specs.Placed.{place_at, vertex, placed, filled}
+use Rattle.panel.proofs.Accepted.{IsAxis, IsPanel, accepted}
+use Rattle.load.specs.Filling.{moved, fill_on, fill_from, fill_by}
+use Rattle.std.specs.Result.{IsOk}
+use Rattle.words.specs.Order.{Order}
+use Rattle.refusal.specs.declared.Refusal.{Refusal}
+use Rattle.predict.specs.Predictor.{PredictorMeaning}
+use Rattle.pack.specs.Packing.{ReadingMeaning}
+use Rattle.panel.specs.Layout.{Rest, rest_at}
+use Rattle.panel.specs.Judging.{axes_at, judged}
+use Rattle.panel.proofs.Faults.{then_was}
+use Rattle.load.specs.Counted.{count_of}
 
 module _ {P : Type 0} (k : KindMeaning P) where
   pub length-fill_on : (a : ℕ) (s : Scale) (cs : List ℤ) (ps : List P) → length (fill_on k a s cs ps) ≡ length ps
@@ -93,3 +102,32 @@ module _ {P : Type 0} (k : KindMeaning P) where
       let sum : n + (i - n) ≡ i = omega arith in
       past 0 xs n old i d long ge ∙ sym (get_or-append_right front (drop n old) n i d lf ge ∙ get_or-drop n old (i - n) d ∙ ap (λ (j : ℕ). get_or old j d) sum))
       (cases_lt i n))
+
+module _ (o : Order) (m : PredictorMeaning) (q : ReadingMeaning) (axes room : ℕ) (file : List ℕ) (n : ℕ) where
+  -- the panel of a file with so many vertices
+  record Counted : Type 0 where
+    panel : Panel
+    reads : judged o m q axes room file ≡ Ok panel
+    count : panel.count ≡ n
+    is : IsPanel axes room panel
+    rest : Rest
+    walked : axes_at o m q n axes (rest_at file 8) ≡ Ok (panel.axes, rest)
+
+  counted : count_of (judged o m q axes room file) ≡ Ok n → Counted
+  counted c =
+      let p = then_was (judged o m q axes room file) _ n c in
+      let a = accepted o m q axes room file p.0 p.1 in
+      let same : p.0.count ≡ n = let i = p.2 in cc in
+      record { panel = p.0; reads = p.1; count = same; is = a.is; rest = a.rest; walked = ap (λ i. axes_at o m q i axes (rest_at file 8)) (sym same) ∙ a.walked }
+
+  pub axes_accepted : (r : Rest) → count_of (judged o m q axes room file) ≡ Ok n → r ≡ rest_at file 8 → IsOk (axes_at o m q n axes r)
+  axes_accepted r c behind = ap (λ p. is_ok (axes_at o m q n axes p)) behind ∙ ap is_ok (counted c).walked
+
+pub placed_all : {P : Type 0} (k : KindMeaning P) (o : Order) (m : PredictorMeaning) (q : ReadingMeaning) (file : List ℕ) (old out : List P) (n : ℕ) → n ≤ length old →
+    count_of (judged o m q k.axes (length old) file) ≡ Ok n → out ≡ fill_by k 0 (axes_at o m q n k.axes (rest_at file 8)) old →
+    ◌≡◌ {A = Result ℕ Refusal × List P} (Ok n, out) (filled k (judged o m q k.axes (length old) file) old)
+placed_all {P} k o m q file old out n room c fill =
+    let x = counted o m q k.axes (length old) file n c in
+    let points = points-are k x.panel.axes x.panel.count old x.is.sized x.is.sound x.is.fits in
+    ap₂ (λ (i : ℕ) (ps : List P). (Ok i, ps)) (sym x.count) (fill ∙ ap (λ r. fill_by k 0 r old) x.walked ∙ points)
+    ∙ sym (ap (λ r. filled k r old) x.reads)

@@ -1,4 +1,4 @@
--- What the steps of judging answer in place of a whole panel: how many vertices, what follows, an axis that is not yet undone.
+-- What the steps of judging answer in place of a whole panel: how many vertices, what follows, an axis as it is read.
 use Rattle.std.specs.Prelude.{ℕ, Ok, Result}
 use Rattle.refusal.specs.declared.Refusal.{Refusal}
 use Rattle.refusal.specs.Refusals.{and_then}

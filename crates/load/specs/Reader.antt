@@ -73,7 +73,8 @@ module _ (o : Order) (m : PredictorMeaning) (q : ReadingMeaning) (axes room : �
   -- The reader of a file stands before a piece at a place: it begins before N at 0, and goes on past each sound piece.
   pub data Stands (file : List ℕ) : Due → ℕ → Type 0 where
     begins : Stands file header 0
-    passes : {d : Due} {at : ℕ} → Stands file d at → Sound (faults d (rest_at file at)) → Stands file (after d (drop at file)) (at + size_of d)
+    passes : {d : Due} {at : ℕ} → Stands file d at → Sound (faults d (rest_at file at))
+        → Stands file (after d (drop at file)) (at + size_of d)
 
   -- The reader comes to a piece that has the fault told, and none of a smaller number.
   pub record FirstFault (file : List ℕ) (e : Refusal) : Type 0 where
@@ -92,7 +93,8 @@ abbrev pub Exactly : Type 0 → Type 0 → Type 0
 Exactly A B = (A → B) × (B → A)
 
 -- What judging answers: a file is refused exactly with its first fault, and accepted exactly where it is read through.
-abbrev pub JudgedByTheFirstFault : {X : Type 0} → Order → PredictorMeaning → ReadingMeaning → ℕ → ℕ → List ℕ → Result X Refusal → Type 0
+abbrev pub JudgedByTheFirstFault : {X : Type 0}
+    → Order → PredictorMeaning → ReadingMeaning → ℕ → ℕ → List ℕ → Result X Refusal → Type 0
 JudgedByTheFirstFault {X} o m q axes room file r =
     ((e : Refusal) → Exactly (r ≡ Err e) (FirstFault o m q axes room file e))
     × Exactly ((x : X) × (r ≡ Ok x)) (ReadThrough o m q axes room file)

@@ -1,6 +1,5 @@
 // Judges a panel file, piece by piece: the first piece with a fault is told, and of its faults the smallest number.
-ghost use Rattle.std.specs.Prelude.{◌≡◌, ◌≤◌, ◌+◌, IfOk, length, Ok};
-ghost use Rattle.panel.specs.Faults.{unless, header_faults};
+ghost use Rattle.std.specs.Prelude.{◌≡◌, ◌≤◌, IfOk, length};
 ghost use Rattle.panel.specs.Layout.{header_piece};
 ghost use Rattle.panel.specs.Judging.{head_at, axis_at, axes_at, end_at, panel_at, nothing_follows, judged};
 ghost use Rattle.load.specs.Counted.{left_of, count_left, count_of};
@@ -85,6 +84,7 @@ fn head<'a, O: ByteOrder, K: PointKind, P: Predictor, Q: Unpacking>(
 }
 
 // Q, V and a body for each axis: what follows them.
+#[tactic(auto, using(crate::proofs::Walk::no_axes))]
 fn axes<'a, O: ByteOrder, P: Predictor, Q: Unpacking>(
     rest: Rest<'a>,
     count: usize,

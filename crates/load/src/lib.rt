@@ -18,8 +18,8 @@ use predict::Predictor;
 use refusal::Refusal;
 use words::LowFirst;
 
-// Loads a file into the front of the points and answers how many there are. A file that is refused changes no point, and
-// its first fault is told.
+// Loads a file into the front of the points and answers how many there are. A file that is refused
+// changes no point, and its first fault is told.
 pub fn load<K: PointKind + Copy, P: Predictor, Q: Unpacking>(
     file: &[u8],
     points: &mut [K],

@@ -20,7 +20,7 @@ use words::ByteOrder;
 
 // The vertices of a file that is accepted. It stands apart, so that its frame is not held while a file is judged.
 #[inline(never)]
-#[tactic(auto, using(crate::proofs::Placed::axes_accepted))]
+#[tactic(auto, using(crate::proofs::Points::axes_accepted))]
 pub fn place<O: ByteOrder, K: PointKind + Copy, P: Predictor, Q: Unpacking>(
     file: &[u8],
     n: VertexCount,
@@ -30,7 +30,8 @@ pub fn place<O: ByteOrder, K: PointKind + Copy, P: Predictor, Q: Unpacking>(
     requires headed { (header_piece O.order).size ≤ length file.now }
     requires accepted { let room = length points.old in
         count_of (judged O.order P.means Q.reading K.kind.axes room file.now) ≡ Ok n }
-    ensures { let panel = judged O.order P.means Q.reading K.kind.axes (length points.old) file.now in
+    ensures { let room = length points.old in
+        let panel = judged O.order P.means Q.reading K.kind.axes room file.now in
         ◌≡◌ {A = Result ℕ Refusal × List K} (Ok n, points.new) (filled K.kind panel points.old) }
 {
     place_axes::<O, K, P, Q>(Rest::of(file, HEAD_SIZE), n, points);

@@ -1,7 +1,6 @@
-use Rattle.std.proofs.Common.{◌+◌, ◌-◌, sym, ap, ◌∙◌, arith}
+use Rattle.std.proofs.Common.{◌+◌, ◌-◌, ◌∙◌, arith}
 use Rattle.std.proofs.lemmas.Result.{err_from_is_err_and}
-use Rattle.load.specs.Counted.{left_of}
-use Rattle.load.proofs.Walk.{walks, no_axes}
+use Rattle.load.proofs.Walk.{walks}
 use Rattle.load.proofs.judge.axes.Goals as goal
 
 pub returns-in_err-left : goal.returns-in_err-left
@@ -14,8 +13,3 @@ returns-in_err-left g c =
 pub loop-preserved : goal.loop-preserved
 loop-preserved g c =
     walks g.O.ByteOrder.order g.P.Predictor.means g.Q.Unpacking.reading c.args.n _ _ c.loop.left _ (omega arith) c.in_ok-left.ensures ∙ c.loop.invariant
-
-pub returns : goal.returns
-returns g c =
-    sym (ap left_of (no_axes g.O.ByteOrder.order g.P.Predictor.means g.Q.Unpacking.reading c.args.n (c.args.count - c.loop.counter) c.loop.left (omega arith)))
-    ∙ c.loop.invariant

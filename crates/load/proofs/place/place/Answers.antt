@@ -1,7 +1,7 @@
 use Rattle.std.proofs.Common.{ap, ◌∙◌}
 use Rattle.panel.specs.Judging.{axes_at}
 use Rattle.load.specs.Filling.{fill_by}
-use Rattle.load.proofs.Placed.{placed_all}
+use Rattle.load.proofs.Points.{placed_all}
 use Rattle.load.proofs.place.place.Goals as goal
 
 pub returns : goal.returns

@@ -1,4 +1,4 @@
-use Rattle.std.proofs.Common.{◌≡◌, ◌+◌, ◌-◌, suc, sym, ap, ◌∙◌, arith, Ok}
+use Rattle.std.proofs.Common.{◌≡◌, ◌+◌, ◌-◌, suc, sym, ap, ◌∙◌, arith}
 use Rattle.panel.specs.Judging.{axes_at}
 use Rattle.load.specs.Counted.{opened_by, says_axis}
 use Rattle.load.specs.Filling.{fill_by}

@@ -17,10 +17,7 @@ loop-i-init g c =
     rw (count, source) (record { placed = search rules; coded = c.requires.coded; room = omega (arith, long, c.requires.room) })
 
 pub step_of-requires : goal.step_of-requires
-step_of-requires g c =
-    let s = c.args.axis.range in
-    let fits : SFits w32 c.in-Some.code = search rules in
-    rw (to_z-of_z w32 c.in-Some.code fits) (and_parts _ _ (sym (codes_next s _ _ _ c.in-Some.ensures.steps.0) ∙ c.loop-i.invariant.coded)).0
+step_of-requires g c = (and_parts _ _ (sym (codes_next c.args.axis.range c.in-Some.code _ _ c.in-Some.ensures.steps.0 (search rules)) ∙ c.loop-i.invariant.coded)).0
 
 pub loop-i-preserved : goal.loop-i-preserved
 loop-i-preserved g c =
@@ -33,7 +30,7 @@ loop-i-preserved g c =
     rw (steps.2, ← steps.1)
     (record {
       placed = place_next g.K.PointKind.kind c.args.number s c.in-Some.i c.loop-i.points _ _ _ _ c.index-points-i.result c.at_place.result _ steps.0 due step c.at_place.ensures (rw steps.1 c.loop-i.invariant.placed);
-      coded = (and_parts _ _ (sym (codes_next s _ _ _ steps.0) ∙ c.loop-i.invariant.coded)).1;
+      coded = (and_parts _ _ (sym (codes_next s c.in-Some.code _ _ steps.0 fits) ∙ c.loop-i.invariant.coded)).1;
       room = rw (length-set c.loop-i.points c.in-Some.i c.at_place.result) (omega (arith, one, steps.1, c.loop-i.invariant.room));
     })
 
