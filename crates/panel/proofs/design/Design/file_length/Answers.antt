@@ -1,6 +1,6 @@
 use Rattle.std.proofs.Common.{length, ap, arith}
 use Rattle.panel.specs.Panel.{panel_on}
-use Rattle.panel.proofs.Axes.{inside_each, length_file, length_next, rest_end}
+use Rattle.panel.proofs.Axes.{length_file, rest_end}
 use Rattle.panel.proofs.design.Design.file_length.Goals as goal
 
 pub returns : goal.returns
