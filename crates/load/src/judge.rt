@@ -107,12 +107,14 @@ fn axis<'a, O: ByteOrder, P: Predictor, Q: Unpacking>(
     ensures { result ≡ left_of (axis_at O.order P.means Q.reading n rest.entry) }
 {
     let (axis, after) = Axis::<O, Q>::take(rest, n)?;
-    for code in axis.body.codes::<P>() {
-        if !axis.range.is_code(code) {
-            return Err(Why::Code.at(axis.offset));
+    'judged: {
+        for code in axis.body.codes::<P>() {
+            if !axis.range.is_code(code) {
+                break 'judged Err(Why::Code.at(axis.offset));
+            }
         }
+        Ok(after)
     }
-    Ok(after)
 }
 
 // E: what follows it.
