@@ -1,7 +1,7 @@
 // Judges a panel file, piece by piece: the first piece with a fault is told, and of its faults the smallest number.
 ghost use Rattle.std.specs.Prelude.{◌≡◌, ◌≤◌, IfOk, length};
 ghost use Rattle.panel.specs.Layout.{header_piece};
-ghost use Rattle.panel.specs.Judging.{head_at, axis_at, axes_at, end_at, panel_at, nothing_follows, judged};
+ghost use Rattle.panel.specs.Judging.{head_at, axes_at, end_at, panel_at, nothing_follows, judged};
 ghost use Rattle.load.specs.Counted.{left_of, count_left, count_of};
 
 use crate::axis::Axis;
@@ -83,8 +83,8 @@ fn head<'a, O: ByteOrder, K: PointKind, P: Predictor, Q: Unpacking>(
     Ok((n, rest))
 }
 
-// Q, V and a body for each axis: what follows them.
-#[tactic(auto, using(crate::proofs::Walk::no_axes))]
+// Q, V and a body for each axis, in which every code is one of its range: what follows them.
+#[tactic(auto, using(crate::proofs::Walk::walk_refused, crate::proofs::Walk::no_axes))]
 fn axes<'a, O: ByteOrder, P: Predictor, Q: Unpacking>(
     rest: Rest<'a>,
     count: usize,
@@ -93,27 +93,17 @@ fn axes<'a, O: ByteOrder, P: Predictor, Q: Unpacking>(
     ensures { result ≡ left_of (axes_at O.order P.means Q.reading n count rest.entry) }
 {
     let mut left = rest;
-    for _ in 0..count {
-        left = axis::<O, P, Q>(left, n)?;
-    }
-    Ok(left)
-}
-
-// Q, V and a body, in which every code is one of the range: what follows.
-fn axis<'a, O: ByteOrder, P: Predictor, Q: Unpacking>(
-    rest: Rest<'a>,
-    n: VertexCount,
-) -> Result<Rest<'a>, Refusal>
-    ensures { result ≡ left_of (axis_at O.order P.means Q.reading n rest.entry) }
-{
-    let (axis, after) = Axis::<O, Q>::take(rest, n)?;
     'judged: {
-        for code in axis.body.codes::<P>() {
-            if !axis.range.is_code(code) {
-                break 'judged Err(Why::Code.at(axis.offset));
+        for _ in 0..count {
+            let (axis, after) = Axis::<O, Q>::take(left, n)?;
+            for code in axis.body.codes::<P>() {
+                if !axis.range.is_code(code) {
+                    break 'judged Err(Why::Code.at(axis.offset));
+                }
             }
+            left = after;
         }
-        Ok(after)
+        Ok(left)
     }
 }
 

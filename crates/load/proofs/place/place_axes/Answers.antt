@@ -1,5 +1,4 @@
-use Rattle.std.proofs.Common.{◌≡◌, ◌+◌, ◌-◌, suc, sym, ap, ◌∙◌, arith}
-use Rattle.panel.specs.Judging.{axes_at}
+use Rattle.std.proofs.Common.{◌≡◌, ◌+◌, ◌-◌, suc, refl, sym, ap, ◌∙◌, arith}
 use Rattle.load.specs.Counted.{opened_by, says_axis}
 use Rattle.load.specs.Filling.{fill_by}
 use Rattle.load.proofs.Walk.{filling}
@@ -9,19 +8,12 @@ pub place_axis-requires-clause-coded : goal.place_axis-requires-clause-coded
 place_axis-requires-clause-coded g c =
     let k = g.K.PointKind.kind in
     let one : k.axes - c.loop-number.number ≡ suc (k.axes - (c.loop-number.number + 1)) = omega (arith, g.met.K.PointKind.counted) in
-    let f = filling g.O.ByteOrder.order g.P.Predictor.means g.Q.Unpacking.reading c.args.n k c.loop-number.number _ c.loop-number.points (says_axis c.unwrap-axis.result.0) c.unwrap-axis.result.1 _ c.loop-number.left one (ap opened_by (sym c.unwrap-axis.ensures) ∙ c.take.ensures.value) c.loop-number.invariant.accepted in
+    let f = filling g.O.ByteOrder.order g.P.Predictor.means g.Q.Unpacking.reading c.args.n _ _ c.loop-number.left (says_axis c.unwrap-axis.result.0) c.unwrap-axis.result.1 one (ap opened_by (sym c.unwrap-axis.ensures) ∙ c.take.ensures.value) k c.loop-number.number c.loop-number.points _ _ refl refl c.loop-number.invariant.accepted in
     f.sound
 
 pub loop-number-preserved : goal.loop-number-preserved
 loop-number-preserved g c =
     let k = g.K.PointKind.kind in
-    let left = k.axes - (c.loop-number.number + 1) in
-    let one : k.axes - c.loop-number.number ≡ suc left = omega (arith, g.met.K.PointKind.counted) in
-    let f = filling g.O.ByteOrder.order g.P.Predictor.means g.Q.Unpacking.reading c.args.n k c.loop-number.number left c.loop-number.points (says_axis c.unwrap-axis.result.0) c.unwrap-axis.result.1 _ c.loop-number.left one (ap opened_by (sym c.unwrap-axis.ensures) ∙ c.take.ensures.value) c.loop-number.invariant.accepted in
-    record {
-      filled =
-          ap (fill_by k (c.loop-number.number + 1) (axes_at g.O.ByteOrder.order g.P.Predictor.means g.Q.Unpacking.reading c.args.n left c.unwrap-axis.result.1)) c.place_axis.ensures
-          ∙ sym f.filled
-          ∙ c.loop-number.invariant.filled;
-      accepted = f.accepted;
-    }
+    let one : k.axes - c.loop-number.number ≡ suc (k.axes - (c.loop-number.number + 1)) = omega (arith, g.met.K.PointKind.counted) in
+    let f = filling g.O.ByteOrder.order g.P.Predictor.means g.Q.Unpacking.reading c.args.n _ _ c.loop-number.left (says_axis c.unwrap-axis.result.0) c.unwrap-axis.result.1 one (ap opened_by (sym c.unwrap-axis.ensures) ∙ c.take.ensures.value) k c.loop-number.number c.loop-number.points _ _ refl refl c.loop-number.invariant.accepted in
+    record { filled = ap (fill_by k (c.loop-number.number + 1) _) c.place_axis.ensures ∙ f.filled ∙ c.loop-number.invariant.filled; accepted = f.accepted }
