@@ -24,7 +24,8 @@ pub fn load<K: PointKind + Copy, P: Predictor, Q: Unpacking>(
     file: &[u8],
     points: &mut [K],
 ) -> Result<VertexCount, Refusal>
-    ensures does { (result, points.new) ≡ load_of K.kind P.means Q.reading file.now points.old }
+    ensures answer { result ≡ (load_of K.kind P.means Q.reading file.now points.old).0 }
+    ensures points { points.new ≡ (load_of K.kind P.means Q.reading file.now points.old).1 }
     ensures first { let room = length points.old in
         JudgedByTheFirstFault low_first P.means Q.reading K.kind.axes room file.now result }
 {
