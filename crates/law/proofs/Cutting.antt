@@ -10,8 +10,8 @@ use Rattle.std.specs.List.{AllByRecursion}
 use Rattle.std.proofs.ByRecursion.{All-map, All-get_or}
 use Rattle.law.specs.Program.{Chain, steps, through as through-all}
 use Rattle.law.specs.Calls.{kept_of, Cut}
-use Rattle.law.specs.Law.{Steps, IsChain, Stored, ByStroke, Meant, Through, Near, Onward, step_on, stroke_from, stroke_to, m_of_stroke, scale_on, marks_of, must_keep}
-use Rattle.law.proofs.Distance.{beside}
+use Rattle.law.specs.Law.{Steps, IsChain, Stored, Follows, Meant, WellDrawn, step_on, stroke_from, stroke_to, m_of_stroke, scale_on, marks_of, must_keep}
+use Rattle.law.proofs.Distance.{beside as add-up}
 use Rattle.law.proofs.Strokes.{ones-one, ones-grows, length-kept}
 use Rattle.law.proofs.Vertices.{length-placed, at-placed, vertex-tells}
 use Rattle.words.specs.Order.{low_first}
@@ -22,11 +22,6 @@ use lib.Ieee.{nan}
 use Rattle.range.proofs.Ranges.{place-near}
 use Rattle.panel.proofs.Told.{place-told, inside-told}
 use Rattle.law.proofs.Trip.{all_in, trip}
-
-pub record Placed {P : Type 0} (k : KindMeaning P) (w : Cut) (c : Chain) : Type 0 where
-  pub through : Through k w c
-  pub near : Near k w c
-  pub onward : Onward k w c
 
 through-is : {P : Type 0} (k : KindMeaning P) (ps : List P) → 1 ≤ length ps → (through-all k ps).from ∷ (through-all k ps).strokes ≡ map (steps k) ps
 through-is k [] h = absurd (omega arith)
@@ -64,25 +59,27 @@ module _ {P : Type 0} (k : KindMeaning P) (w : Cut) (x : Panel) (meant : Meant k
       let is : IsRange (scale_on gs j) = All-get_or IsRange gs j g (omega (arith, k.few_axes, s.three)) s.ranges in
       rw (placed_at, place-told k gs design s.three j l g i h) (place-near (scale_on gs j) is (at (told k design) i j) (inside-told k gs design s.three j l g i h (all_in k w.panel gs design s)))
 
-  by-stroke : (gs : List Scale) (design : List P) → Stored k w.panel gs design → (i : ℕ) → i < length design →
-      ByStroke k w.tolerance gs design chain_of i (stroke k w.tolerance x many i)
-  by-stroke gs design s i h =
+  follows : (gs : List Scale) (design : List P) → Stored k w.panel gs design → Follows k w.tolerance gs design chain_of
+  follows gs design s =
       let back = trip k w.panel gs design s in
       let same : x ≡ panel_of k gs design = cc in
       let count : x.count ≡ length design = ap (λ (y : Panel). y.count) same in
-      let lies = lies_along k w.tolerance x many chain_of is i (omega arith) in
-      let A : List ℤ = stroke_from chain_of (stroke k w.tolerance x many i) in
-      let B : List ℤ = stroke_to chain_of (stroke k w.tolerance x many i) in
+      let lies = lies_along k w.tolerance x many chain_of is in
       record {
-        real = lies.0;
-        beside = record {
-          along = lies.1.along;
-          short = lies.1.short;
-          off = λ j l.
-              beside (quanta (scale_on gs j)) (width (scale_on gs j)) (m_of_stroke A B) w.tolerance lies.1.along (at (told k design) i j) (at (told k (placed k x)) i j) (step_on A j) (step_on B j -ℤ step_on A j)
-              (close gs design s same i j h l)
-              (lies.1.off j (omega (arith, k.few_axes)));
-        };
+        stroke = stroke k w.tolerance x many;
+        real = λ i h. (lies i (omega arith)).0;
+        near = λ i h.
+            let A : List ℤ = stroke_from chain_of (stroke k w.tolerance x many i) in
+            let B : List ℤ = stroke_to chain_of (stroke k w.tolerance x many i) in
+            let beside = (lies i (omega arith)).1 in
+            record {
+              along = beside.along;
+              short = beside.short;
+              off = λ j l.
+                  add-up (quanta (scale_on gs j)) (width (scale_on gs j)) (m_of_stroke A B) w.tolerance beside.along (at (told k design) i j) (at (told k (placed k x)) i j) (step_on A j) (step_on B j -ℤ step_on A j)
+                  (close gs design s same i j h l) (beside.off j (omega (arith, k.few_axes)));
+            };
+        onward = λ i j h l. never-falls k w.tolerance x many i j h;
       }
 
   ending : stroke_to chain_of (length chain_of.strokes - 1) ≡ steps k (vertex k x (x.count - 1))
@@ -106,15 +103,12 @@ module _ {P : Type 0} (k : KindMeaning P) (w : Cut) (x : Panel) (meant : Meant k
       (all-kept (λ p. Steps k.axes (steps k p)) (marks_of k w.tolerance x) (placed k x) (all-steps k (placed k x) near))) in
       record { travel = all.0; some = some-strokes k w.tolerance x many chain_of is; each = all.1 }
 
-  pub placed-well : Placed k w chain_of
-  placed-well = record {
-    through = record { panel = x; meant = meant; vertices = is };
-    near = λ gs design s i h. (stroke k w.tolerance x many i, by-stroke gs design s i h);
-    onward = record {
-      panel = x;
-      meant = meant;
-      begins = stands k w.tolerance x many chain_of is 0 (omega (arith, many)) (marks-near k w.tolerance x many).first;
-      ends = ending;
-      never_back = λ gs design s. (stroke k w.tolerance x many, by-stroke gs design s, λ i j h l. never-falls k w.tolerance x many i j h);
-    };
+  pub well-drawn : WellDrawn k w chain_of
+  well-drawn = record {
+    panel = x;
+    meant = meant;
+    through = is;
+    begins = stands k w.tolerance x many chain_of is 0 (omega (arith, many)) (marks-near k w.tolerance x many).first;
+    ends = ending;
+    follows = follows;
   }
