@@ -1,32 +1,78 @@
 -- The chain of an accepted cut.
-use Rattle.std.proofs.Common.{◌≡◌, ℕ, suc, ◌+◌, ◌-◌, ◌*◌, ◌<◌, ◌≤◌, true, List, [], ◌∷◌, map, length, get_or, ℤ, pos, ◌-ℤ◌, ◌*ℤ◌, nat_abs, sym, refl, ap, ◌∙◌, subst, arith}
+use Rattle.std.proofs.Common.{◌≡◌, ℕ, ◌+◌, ◌*◌, ◌≤◌, ℤ, pos, ◌+ℤ◌, ◌-ℤ◌, ◌*ℤ◌, nat_abs, ap, le_refl, mul-le-mul, arith, true, List, length, Ok, sym, ◌∙◌, suc, ◌-◌, ◌<◌, [], ◌∷◌, map, get_or, refl, subst}
+use borrow.Author.Differences.{abs_is}
+use borrow.Author.Differences as U
+use Rattle.std.proofs.lemmas.Int.{ints, unsigned_abs-mul}
+use Rattle.words.specs.Order.{low_first}
 use Rattle.kinds.specs.Kind.{KindMeaning}
-use Rattle.kinds.specs.Vertex.{Vertex, at, told, all_close_by}
+use Rattle.pack.specs.Packing.{ReadingMeaning}
 use Rattle.range.specs.Scale.{Scale, IsRange, quanta, width}
+use Rattle.panel.specs.Panel.{panel_of, all_inside, Panel}
+use Rattle.panel.specs.Written.{file_of}
+use Rattle.panel.specs.Judging.{judged}
+use Rattle.panel.proofs.Stores.{stores-the-file}
+use Rattle.panel.proofs.Sound.{every_file_read_back}
+use Rattle.law.specs.Calls.{Load, meaning_of, kept_of, Cut}
+use Rattle.law.specs.Law.{Stored, Steps, IsChain, Follows, Meant, WellDrawn, step_on, stroke_from, stroke_to, m_of_stroke, scale_on, marks_of, must_keep}
+use Rattle.kinds.specs.Vertex.{Vertex, at, told, all_close_by}
 use Rattle.seam.specs.Ones.{ones}
-use Rattle.panel.specs.Panel.{Panel, panel_of}
 use Rattle.panel.specs.Placed.{place_at, vertex, placed}
 use Rattle.std.specs.List.{AllByRecursion}
 use Rattle.std.proofs.ByRecursion.{All-map, All-get_or}
 use Rattle.law.specs.Program.{Chain, steps, through as through-all}
-use Rattle.law.specs.Calls.{kept_of, Cut}
-use Rattle.law.specs.Law.{Steps, IsChain, Stored, ByStroke, Meant, Through, Near, Onward, step_on, stroke_from, stroke_to, m_of_stroke, scale_on, marks_of, must_keep}
-use Rattle.law.proofs.Distance.{beside}
-use Rattle.law.proofs.Strokes.{ones-one, ones-grows, length-kept}
-use Rattle.law.proofs.Vertices.{length-placed, at-placed, vertex-tells}
-use Rattle.words.specs.Order.{low_first}
+use Rattle.law.proofs.Strokes.{ones-one, ones-grows, length-kept, length-marks, marks-near, stroke, never-falls, stands, count-strokes, some-strokes, lies_along}
+use Rattle.law.proofs.Vertices.{length-placed, at-placed, vertex-tells, all-kept, all-steps}
 use Rattle.panel.proofs.Accepted.{accepted as known}
-use Rattle.law.proofs.Steps.{all-kept, all-steps}
-use Rattle.law.proofs.Lies.{length-marks, marks-near, stroke, never-falls, stands, count-strokes, some-strokes, lies_along}
 use lib.Ieee.{nan}
 use Rattle.range.proofs.Ranges.{place-near}
 use Rattle.panel.proofs.Told.{place-told, inside-told}
-use Rattle.law.proofs.Trip.{all_in, trip}
 
-pub record Placed {P : Type 0} (k : KindMeaning P) (w : Cut) (c : Chain) : Type 0 where
-  pub through : Through k w c
-  pub near : Near k w c
-  pub onward : Onward k w c
+abs-plus : (a b : ℤ) → nat_abs (a +ℤ b) ≤ nat_abs a + nat_abs b
+abs-plus a b = omega (arith, ints, abs_is a, abs_is b, abs_is (a +ℤ b))
+
+-- m a = m x + 16 m b where a = x + 16 b
+spread : (m : ℕ) (a x b : ℤ) → a ≡ x +ℤ pos 16 *ℤ b → pos m *ℤ a ≡ pos m *ℤ x +ℤ pos 16 *ℤ (pos m *ℤ b)
+spread m a x b e =
+    let h : U.up a + U.down x + 16 * U.down b ≡ U.down a + U.up x + 16 * U.up b = omega (arith, ints) in
+    let t : m * (U.up a + U.down x + 16 * U.down b) ≡ m * (U.down a + U.up x + 16 * U.up b) = ap (λ (n : ℕ). m * n) h in
+    omega (arith, ints)
+
+together : (k : ℕ) (d : ℤ) → pos (16 * k) *ℤ d ≡ pos 16 *ℤ (pos k *ℤ d)
+together k d = omega (arith, ints)
+
+joined : (s u b e f : ℤ) → s ≡ u +ℤ pos 16 *ℤ b → f ≡ pos 16 *ℤ e → s -ℤ f ≡ u +ℤ pos 16 *ℤ (b -ℤ e)
+joined s u b e f p q = omega (arith, ints)
+
+apart : (m k : ℕ) (v P A d : ℤ) →
+    pos m *ℤ (v -ℤ pos 16 *ℤ A) -ℤ pos (16 * k) *ℤ d ≡ pos m *ℤ (v -ℤ pos 16 *ℤ P) +ℤ pos 16 *ℤ (pos m *ℤ (P -ℤ A) -ℤ pos k *ℤ d)
+apart m k v P A d =
+    let sum : v -ℤ pos 16 *ℤ A ≡ (v -ℤ pos 16 *ℤ P) +ℤ pos 16 *ℤ (P -ℤ A) = omega (arith, ints) in
+    joined (pos m *ℤ (v -ℤ pos 16 *ℤ A)) (pos m *ℤ (v -ℤ pos 16 *ℤ P)) (pos m *ℤ (P -ℤ A)) (pos k *ℤ d) (pos (16 * k) *ℤ d) (spread m (v -ℤ pos 16 *ℤ A) (v -ℤ pos 16 *ℤ P) (P -ℤ A) sum) (together k d)
+
+pub beside : (M D m t k : ℕ) (v P A d : ℤ) → 2 * M * nat_abs (v -ℤ pos 16 *ℤ P) ≤ D + 16 * M → nat_abs (pos m *ℤ (P -ℤ A) -ℤ pos k *ℤ d) ≤ t * m →
+    2 * M * nat_abs (pos m *ℤ (v -ℤ pos 16 *ℤ A) -ℤ pos (16 * k) *ℤ d) ≤ m * (D + 16 * M + 32 * M * t)
+beside M D m t k v P A d h l =
+    let x : ℤ = v -ℤ pos 16 *ℤ P in
+    let y : ℤ = pos m *ℤ (P -ℤ A) -ℤ pos k *ℤ d in
+    let w : ℤ = pos m *ℤ (v -ℤ pos 16 *ℤ A) -ℤ pos (16 * k) *ℤ d in
+    let a : nat_abs w ≤ m * nat_abs x + 16 * nat_abs y =
+    omega (arith, ap nat_abs (apart m k v P A d), abs-plus (pos m *ℤ x) (pos 16 *ℤ y), unsigned_abs-mul (pos m) x, unsigned_abs-mul (pos 16) y) in
+    let b : M * nat_abs w ≤ M * (m * nat_abs x + 16 * nat_abs y) = mul-le-mul (le_refl M) a in
+    let c : m * (2 * M * nat_abs x) ≤ m * (D + 16 * M) = mul-le-mul (le_refl m) h in
+    let e : M * nat_abs y ≤ M * (t * m) = mul-le-mul (le_refl M) l in
+    omega arith
+
+module _ {P : Type 0} (k : KindMeaning P) (l : Load) (gs : List Scale) (design : List P) (s : Stored k l gs design) where
+  pub all_in : all_inside k gs design ≡ true
+  all_in = (stores-the-file k l.predictor s.packing design gs s.room s.before s.size s.after s.stores).1
+
+  pub trip : meaning_of l k.axes 4096 ≡ Ok (panel_of k gs design)
+  trip =
+      let f = stores-the-file k l.predictor s.packing design gs s.room s.before s.size s.after s.stores in
+      let enough : k.axes ≤ length gs = omega (arith, k.few_axes, s.three) in
+      ap (λ (bs : List ℕ). judged low_first l.predictor l.packing k.axes 4096 bs) (sym s.file ∙ f.2)
+      ∙ ap (λ (q : ReadingMeaning). judged low_first l.predictor q k.axes 4096 (file_of low_first l.predictor s.packing (panel_of k gs design))) (sym s.same)
+      ∙ every_file_read_back k low_first l.predictor s.packing design gs 4096 s.ranges f.0 f.0.1 enough f.1
 
 through-is : {P : Type 0} (k : KindMeaning P) (ps : List P) → 1 ≤ length ps → (through-all k ps).from ∷ (through-all k ps).strokes ≡ map (steps k) ps
 through-is k [] h = absurd (omega arith)
@@ -64,25 +110,27 @@ module _ {P : Type 0} (k : KindMeaning P) (w : Cut) (x : Panel) (meant : Meant k
       let is : IsRange (scale_on gs j) = All-get_or IsRange gs j g (omega (arith, k.few_axes, s.three)) s.ranges in
       rw (placed_at, place-told k gs design s.three j l g i h) (place-near (scale_on gs j) is (at (told k design) i j) (inside-told k gs design s.three j l g i h (all_in k w.panel gs design s)))
 
-  by-stroke : (gs : List Scale) (design : List P) → Stored k w.panel gs design → (i : ℕ) → i < length design →
-      ByStroke k w.tolerance gs design chain_of i (stroke k w.tolerance x many i)
-  by-stroke gs design s i h =
+  follows : (gs : List Scale) (design : List P) → Stored k w.panel gs design → Follows k w.tolerance gs design chain_of
+  follows gs design s =
       let back = trip k w.panel gs design s in
       let same : x ≡ panel_of k gs design = cc in
       let count : x.count ≡ length design = ap (λ (y : Panel). y.count) same in
-      let lies = lies_along k w.tolerance x many chain_of is i (omega arith) in
-      let A : List ℤ = stroke_from chain_of (stroke k w.tolerance x many i) in
-      let B : List ℤ = stroke_to chain_of (stroke k w.tolerance x many i) in
+      let lies = lies_along k w.tolerance x many chain_of is in
       record {
-        real = lies.0;
-        beside = record {
-          along = lies.1.along;
-          short = lies.1.short;
-          off = λ j l.
-              beside (quanta (scale_on gs j)) (width (scale_on gs j)) (m_of_stroke A B) w.tolerance lies.1.along (at (told k design) i j) (at (told k (placed k x)) i j) (step_on A j) (step_on B j -ℤ step_on A j)
-              (close gs design s same i j h l)
-              (lies.1.off j (omega (arith, k.few_axes)));
-        };
+        stroke = stroke k w.tolerance x many;
+        real = λ i h. (lies i (omega arith)).0;
+        near = λ i h.
+            let A : List ℤ = stroke_from chain_of (stroke k w.tolerance x many i) in
+            let B : List ℤ = stroke_to chain_of (stroke k w.tolerance x many i) in
+            let off = (lies i (omega arith)).1 in
+            record {
+              along = off.along;
+              short = off.short;
+              off = λ j l.
+                  beside (quanta (scale_on gs j)) (width (scale_on gs j)) (m_of_stroke A B) w.tolerance off.along (at (told k design) i j) (at (told k (placed k x)) i j) (step_on A j) (step_on B j -ℤ step_on A j)
+                  (close gs design s same i j h l) (off.off j (omega (arith, k.few_axes)));
+            };
+        onward = λ i j h l. never-falls k w.tolerance x many i j h;
       }
 
   ending : stroke_to chain_of (length chain_of.strokes - 1) ≡ steps k (vertex k x (x.count - 1))
@@ -106,15 +154,12 @@ module _ {P : Type 0} (k : KindMeaning P) (w : Cut) (x : Panel) (meant : Meant k
       (all-kept (λ p. Steps k.axes (steps k p)) (marks_of k w.tolerance x) (placed k x) (all-steps k (placed k x) near))) in
       record { travel = all.0; some = some-strokes k w.tolerance x many chain_of is; each = all.1 }
 
-  pub placed-well : Placed k w chain_of
-  placed-well = record {
-    through = record { panel = x; meant = meant; vertices = is };
-    near = λ gs design s i h. (stroke k w.tolerance x many i, by-stroke gs design s i h);
-    onward = record {
-      panel = x;
-      meant = meant;
-      begins = stands k w.tolerance x many chain_of is 0 (omega (arith, many)) (marks-near k w.tolerance x many).first;
-      ends = ending;
-      never_back = λ gs design s. (stroke k w.tolerance x many, by-stroke gs design s, λ i j h l. never-falls k w.tolerance x many i j h);
-    };
+  pub well-drawn : WellDrawn k w chain_of
+  well-drawn = record {
+    panel = x;
+    meant = meant;
+    through = is;
+    begins = stands k w.tolerance x many chain_of is 0 (omega (arith, many)) (marks-near k w.tolerance x many).first;
+    ends = ending;
+    follows = follows;
   }

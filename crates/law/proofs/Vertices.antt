@@ -1,15 +1,22 @@
--- A panel's vertices as placed, their steps and their coordinates.
-use Rattle.std.proofs.Common.{◌≡◌, ℕ, zero, suc, ◌<◌, ◌≤◌, List, [], ◌∷◌, map, length, get_or, pos, sym, refl, ap, ◌∙◌, ⊎_elim, arith}
+-- A panel's vertices as placed, their steps and their coordinates; and a split's marks, whatever stood in the list.
+use Rattle.std.proofs.Common.{◌≡◌, ℕ, zero, suc, ◌<◌, ◌≤◌, List, [], ◌∷◌, map, length, get_or, pos, sym, refl, ap, ◌∙◌, ⊎_elim, arith, ◌-◌, ◌++◌, take, drop, set, replicate, true, eqb, ℤ, negsuc, subst}
 use mathlib.Core.Path.{fun_ext}
-use Rattle.std.proofs.lemmas.List.{get_or_past, get_or-map}
+use Rattle.std.proofs.lemmas.List.{get_or_past, get_or-map, length-replicate, take_at, append-nil, drop_all}
 use Rattle.std.proofs.lemmas.List.FromFn.{get_or-map-range_with_len, length-map-range_with_len}
-use Rattle.std.proofs.lemmas.Bool.{cases_lt}
+use Rattle.std.proofs.lemmas.Bool.{cases_lt, and_parts, cond_both}
 use Rattle.kinds.specs.Kind.{KindMeaning, triple}
-use Rattle.kinds.specs.Vertex.{at, told}
+use Rattle.kinds.specs.Vertex.{at, told, OnBench, close_by, all_close_by}
 use Rattle.panel.specs.Panel.{Axis, Panel}
 use Rattle.panel.specs.Placed.{place_at, vertex, placed}
 use Rattle.law.specs.Program.{steps}
-use Rattle.law.specs.Law.{step_on}
+use Rattle.law.specs.Law.{step_on, Steps}
+use Rattle.seam.specs.Seam.{cleared, ends}
+use Rattle.seam.specs.Split.{Tree, whole, parted, marked}
+use Rattle.std.specs.List.{AllByRecursion}
+use Rattle.std.proofs.ByRecursion.{All-from_get_or}
+use Rattle.words.specs.Numbers.{Word}
+use Rattle.seam.proofs.Vertices.{close-each}
+use Rattle.law.specs.Calls.{kept_of}
 
 place-past : (xs : List Axis) (j i : ℕ) → length xs ≤ j → place_at xs j i ≡ pos 0
 unfolding place_at
@@ -56,3 +63,49 @@ module _ {P : Type 0} (k : KindMeaning P) where
           three (suc zero) h = refl
           three (suc (suc zero)) h = refl
           three (suc (suc (suc j))) h = absurd (omega arith)
+
+take-set-in : (n : ℕ) (ms : List ℕ) (i y : ℕ) → take n (set ms i y) ≡ set (take n ms) i y
+take-set-in zero ms i y = refl
+take-set-in (suc n) [] i y = refl
+take-set-in (suc n) (m ∷ ms) zero y = refl
+take-set-in (suc n) (m ∷ ms) (suc i) y = ap (λ (l : List ℕ). m ∷ l) (take-set-in n ms i y)
+
+take-marked : (n : ℕ) (t : Tree) (ms : List ℕ) → take n (marked t ms) ≡ marked t (take n ms)
+take-marked n (whole x) ms = refl
+take-marked n (parted x c f w) ms =
+    take-marked n w (marked f (set ms c 1)) ∙ ap (marked w) (take-marked n f (set ms c 1) ∙ ap (marked f) (take-set-in n ms c 1))
+
+take-cleared : (n : ℕ) (ms : List ℕ) → take n (cleared n ms) ≡ cleared n (replicate n 0)
+take-cleared n ms =
+    take_at (replicate n 0) (drop n ms) n (length-replicate n 0) ∙ sym (ap (λ (l : List ℕ). replicate n 0 ++ l) (drop_all n (replicate n 0) (omega (arith, length-replicate {A = ℕ} n 0))) ∙ append-nil (replicate n 0))
+
+pub take-marks : (n : ℕ) (t : Tree) (ms : List ℕ) → take n (marked t (ends n ms)) ≡ marked t (ends n (replicate n 0))
+take-marks n t ms =
+    take-marked n t (ends n ms)
+    ∙ ap (marked t) (take-set-in n (set (cleared n ms) 0 1) (n - 1) 1
+    ∙ ap (λ (l : List ℕ). set l (n - 1) 1) (take-set-in n (cleared n ms) 0 1 ∙ ap (λ (l : List ℕ). set l 0 1) (take-cleared n ms)))
+
+-- what holds of all points holds of those that are kept
+pub all-kept : {X : Type 0} (Q : X → Type 0) (ms : List ℕ) (ps : List X) → AllByRecursion Q ps → AllByRecursion Q (kept_of ms ps)
+all-kept Q [] ps all = tt
+all-kept Q (m ∷ ms) [] all = tt
+all-kept Q (m ∷ ms) (p ∷ ps) all =
+    cond_both (eqb m 1) (p ∷ kept_of ms ps) (kept_of ms ps) (AllByRecursion Q) (λ _. (all.0, all-kept Q ms ps all.1)) (λ _. all-kept Q ms ps all.1)
+
+bench-word : (z : ℤ) → OnBench z → Word z
+bench-word (pos n) h = record { sfits = omega arith }
+bench-word (negsuc n) h = record { sfits = omega arith }
+
+module _ {P : Type 0} (k : KindMeaning P) where
+  steps-fit : (p : P) → close_by (k.coordinate p) ≡ true → Steps k.axes (steps k p)
+  steps-fit p e =
+      let size : length (steps k p) ≡ k.axes = length-map-range_with_len (k.coordinate p) 0 k.axes in (
+        size,
+        All-from_get_or Word (steps k p) (pos 0) (λ j h.
+            subst Word (sym (get_or-map-range_with_len (k.coordinate p) 0 k.axes j j (pos 0) (omega arith) (omega arith)))
+            (bench-word _ (close-each (k.coordinate p) e j (omega (arith, k.few_axes))))),
+      )
+
+  pub all-steps : (ps : List P) → all_close_by (told k ps) ≡ true → AllByRecursion (λ p. Steps k.axes (steps k p)) ps
+  all-steps [] e = tt
+  all-steps (p ∷ ps) e = let a = and_parts (close_by (k.coordinate p)) (all_close_by (told k ps)) e in (steps-fit p a.0, all-steps ps a.1)

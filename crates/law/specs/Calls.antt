@@ -1,16 +1,16 @@
 -- The bench with its lists, and what each call does to them; and lists of calls: what they lead to,
 -- which are accepted, and what each cut draws.
-use Rattle.std.specs.Prelude.{ℕ, ◌+◌, ◌-◌, Bool, true, false, cond, ◌&&◌, List, [], ◌∷◌, ◌++◌, length, take, drop, Some, None, Ok, Err, Option, Result, unwrap_or, ◌==◌, nat_lt, nat_le, slice_index}
+use Rattle.std.specs.Prelude.{ℕ, ◌+◌, ◌-◌, Bool, true, false, cond, if◌then◌else◌, ◌&&◌, List, [], ◌∷◌, ◌++◌, length, take, drop, Some, None, Ok, Err, Option, Result, unwrap_or, is_ok, ◌==◌, nat_lt, nat_le, slice_index}
 use Rattle.refusal.specs.declared.Why.{Why}
 use Rattle.refusal.specs.declared.Why.TheVariants.{AlreadyClosed, TooEarly, ShortList, Unfit, NoSpace}
 use Rattle.refusal.specs.declared.Refusal.{Refusal}
+use Rattle.refusal.specs.Refusals.{refuse, and_then}
 use Rattle.kinds.specs.Kind.{KindMeaning}
 use Rattle.predict.specs.Predictor.{PredictorMeaning}
 use Rattle.pack.specs.Packing.{ReadingMeaning}
 use Rattle.words.specs.Order.{low_first}
 use Rattle.words.specs.Bytes.{overwritten}
 use Rattle.panel.specs.Panel.{Panel}
-use Rattle.refusal.specs.Refusals.{refuse, and_then}
 use Rattle.panel.specs.Judging.{judged}
 use Rattle.panel.specs.Placed.{placed}
 use Rattle.seam.specs.Ones.{ones}
@@ -22,7 +22,7 @@ use Rattle.law.specs.declared.Event.{Event}
 use Rattle.law.specs.declared.Event.TheVariants as event
 use Rattle.law.specs.Program.{chain_bytes, chain_size, through, finish}
 
--- what a load is given
+-- what a load is given: a predictor, a packing and a file
 pub record Load : Type 0 where
   pub predictor : PredictorMeaning
   pub packing : ReadingMeaning
@@ -69,27 +69,6 @@ fresh = record { stage = Empty; length = 0 }
 abbrev pub new : {P : Type 0} → Lists P → State P
 new lists = record { desk = fresh; lists = lists }
 
--- what an accepted call reports: the vertices loaded; those kept, with the chords that waited at most; or the
--- program's length
-pub data Report : Type 0 where
-  Vertices : ℕ → Report
-  Counts : ℕ × ℕ → Report
-  Length : ℕ → Report
-
--- what a call answers
-abbrev pub Answer : Type 0
-Answer = Result Report Refusal
-
--- an answer, reported in this way
-abbrev pub report_as : {X : Type 0} → (X → Report) → Result X Refusal → Answer
-report_as report (Ok x) = Ok (report x)
-report_as report (Err e) = Err e
-
--- what a call leads to: its answer, and the bench and lists after it
-pub record Effect (P : Type 0) : Type 0 where
-  pub answer : Answer
-  pub after : State P
-
 -- the vertex count of the panel at a stage, if there is one
 abbrev pub panel_count : Stage → Option ℕ
 panel_count Empty = None
@@ -105,23 +84,38 @@ admitted Empty event.Cut = refuse TooEarly 0
 admitted (Loaded n) event.Cut = refuse TooEarly 0
 admitted stage e = Ok (panel_count stage)
 
--- what a call on one list leads to
+-- ---- each call, on the one list that it writes
+
+-- what such a call leads to: its answer, and the bench and the list after it
 pub record Done (X L : Type 0) : Type 0 where
   pub answer : Result X Refusal
   pub bench : Desk
   pub list : L
 
--- refused, bench and list stay as they were
+-- accepted, the call leaves this answer, bench and list; refused, it leaves bench and list as they were
 abbrev pub settled : {X L : Type 0} → Desk → L → Result (X × Desk × L) Refusal → Done X L
 settled d list (Ok done) = record { answer = Ok done.0; bench = done.1; list = done.2 }
 settled d list (Err e) = record { answer = Err e; bench = d; list = list }
 
--- done, unless a reason speaks against it
-abbrev pub unless : {X : Type 0} → Option Why → X → Result X Refusal
-unless None x = Ok x
-unless (Some why) x = refuse why 0
+-- done, barring a reason against it
+abbrev pub barring : {X : Type 0} → Option Why → X → Result X Refusal
+barring None x = Ok x
+barring (Some why) x = refuse why 0
 
--- 8 steps if none is given
+-- the bytes behind the program; the bench at such a stage, and its program so much longer
+abbrev pub longer : Stage → Desk → List ℕ → List ℕ → ℕ × Desk × List ℕ
+longer stage d program bytes =
+    let end : ℕ = d.length + length bytes in
+    (end, record { stage = stage; length = end }, overwritten program d.length bytes)
+
+-- close: the finish, if there is a byte for it
+abbrev pub close_on : Desk → List ℕ → Done ℕ (List ℕ)
+close_on d program = settled d program (
+    and_then (admitted d.stage event.Close) (λ _.
+    if nat_lt d.length (length program) then Ok (longer Closed d program finish)
+    else refuse NoSpace 0))
+
+-- a split's tolerance: 8 steps if none is given
 abbrev pub tolerance : Option ℕ → ℕ
 tolerance t = unwrap_or t 8
 
@@ -131,101 +125,101 @@ kept_of [] ps = []
 kept_of (m ∷ ms) [] = []
 kept_of (m ∷ ms) (p ∷ ps) = cond (m == 1) (p ∷ kept_of ms ps) (kept_of ms ps)
 
--- at such a stage, with these bytes behind the program
-abbrev pub longer : Stage → Desk → List ℕ → List ℕ → ℕ × Desk × List ℕ
-longer stage d program bytes =
-    let end : ℕ = d.length + length bytes in
-    (end, record { stage = stage; length = end }, overwritten program d.length bytes)
-
--- close: the finish, if there is a byte for it
-abbrev pub new_finish : Desk → List ℕ → Result (ℕ × Desk × List ℕ) Refusal
-new_finish d program =
-    cond (nat_lt d.length (length program)) (Ok (longer Closed d program finish)) (refuse NoSpace 0)
-
-abbrev pub close_on : Desk → List ℕ → Done ℕ (List ℕ)
-close_on d program =
-    settled d program (and_then (admitted d.stage event.Close) (λ _. new_finish d program))
-
 module _ {P : Type 0} (k : KindMeaning P) where
-  -- load: the panel's vertices as placed, at the front of the point list
-  abbrev pub new_panel : Result Panel Refusal → Desk → List P → Result (ℕ × Desk × List P) Refusal
-  new_panel judgement d points = and_then judgement (λ x.
-      Ok (x.count, record d { stage = Loaded x.count }, placed k x ++ drop x.count points))
-
+  -- load: the panel's vertices as placed, at the front of the point list; and how many
   abbrev pub load_on : Load → Desk → List P → Done ℕ (List P)
-  load_on l d points = settled d points (and_then (admitted d.stage event.Load) (λ _.
-      new_panel (meaning_of l k.axes (length points)) d points))
+  load_on l d points = settled d points (
+      and_then (admitted d.stage event.Load) (λ _.
+      and_then (meaning_of l k.axes (length points)) (λ x.
+      Ok (x.count, record d { stage = Loaded x.count }, placed k x ++ drop x.count points))))
 
-  -- split: the marks that the rule gives, and the two counts
-  abbrev pub new_marks :
-      Option Why → ℕ → ℕ → Desk → List P → List ℕ → Result ((ℕ × ℕ) × Desk × List ℕ) Refusal
-  new_marks why n t d points marks =
-      let tree = tree_of k t n (take n points) in
-      unless why
-      ((2 + kept tree, waits tree), record d { stage = Split n }, marked tree (ends n marks))
-
+  -- split: the marks that the rule gives; how many vertices are kept, and how many chords waited at most
   abbrev pub split_on : Option ℕ → Desk → List P → List ℕ → Done (ℕ × ℕ) (List ℕ)
-  split_on t d points marks = settled d marks (and_then (admitted d.stage event.Split) (λ count.
+  split_on t d points marks = settled d marks (
+      and_then (admitted d.stage event.Split) (λ count.
       let n : ℕ = unwrap_or count 0 in
-      new_marks (why_not k (tolerance t) n points marks) n (tolerance t) d points marks))
+      let tree = tree_of k (tolerance t) n (take n points) in
+      barring (why_not k (tolerance t) n points marks)
+      ((2 + kept tree, waits tree), record d { stage = Split n }, marked tree (ends n marks))))
 
   -- what a cut of n vertices appends: the chain through the points marked 1
   unfoldable pub drawn : ℕ → List P → List ℕ → List ℕ
   drawn n points marks = chain_bytes (through k (kept_of (take n marks) (take n points)))
 
-  -- why a split panel is not cut from a program length on: there must be space for the chain, and for the finish
+  -- why n vertices are not cut from a program length on: there must be space for the chain, and for the finish
   abbrev pub why_cut : ℕ → ℕ → List P → List ℕ → List ℕ → Option Why
   why_cut n at points marks program =
-      cond (short_list n points marks) (Some ShortList)
-      (cond (slice_index marks 0 == 1 && slice_index marks (n - 1) == 1)
-      (cond (nat_le (at + (chain_size (ones n marks) k.axes + 1)) (length program))
-      None (Some NoSpace))
-      (Some Unfit))
+      if short_list n points marks then Some ShortList
+      else (if slice_index marks 0 == 1 && slice_index marks (n - 1) == 1 then
+      (if nat_le (at + (chain_size (ones n marks) k.axes + 1)) (length program) then None
+      else Some NoSpace)
+      else Some Unfit)
 
   -- cut: the chain
   abbrev pub cut_on : Desk → List P → List ℕ → List ℕ → Done ℕ (List ℕ)
-  cut_on d points marks program = settled d program (and_then (admitted d.stage event.Cut) (λ count.
+  cut_on d points marks program = settled d program (
+      and_then (admitted d.stage event.Cut) (λ count.
       let n : ℕ = unwrap_or count 0 in
-      unless (why_cut n d.length points marks program)
+      barring (why_cut n d.length points marks program)
       (longer d.stage d program (drawn n points marks))))
 
--- what a call on one list leads to among all three, with its report
+-- ---- a call on the bench and all three lists
+
+-- what an accepted call reports: the vertices loaded; those kept, and the chords that waited at most; or the
+-- program's length
+pub data Report : Type 0 where
+  Vertices : ℕ → Report
+  Counts : ℕ × ℕ → Report
+  Length : ℕ → Report
+
+-- what any call answers
+abbrev pub Answer : Type 0
+Answer = Result Report Refusal
+
+-- an answer, reported in this way
+abbrev pub report_as : {X : Type 0} → (X → Report) → Result X Refusal → Answer
+report_as report (Ok x) = Ok (report x)
+report_as report (Err e) = Err e
+
+-- what any call leads to: its answer, and the bench and lists after it
+pub record Effect (P : Type 0) : Type 0 where
+  pub answer : Answer
+  pub after : State P
+
+-- so from what is done to one list, which then stands among these lists
 abbrev pub effect : {X L P : Type 0} → (X → Report) → (L → Lists P) → Done X L → Effect P
-effect report lists done = record {
+effect report among done = record {
   answer = report_as report done.answer;
-  after = record { desk = done.bench; lists = lists done.list };
+  after = record { desk = done.bench; lists = among done.list };
 }
 
--- one call
-abbrev pub step : {P : Type 0} → KindMeaning P → State P → Call → Effect P
-step k s (load l) =
-    effect Vertices (λ ps. record s.lists { points = ps }) (load_on k l s.desk s.lists.points)
-step k s (split t) =
-    effect Counts (λ ms. record s.lists { marks = ms })
-    (split_on k t s.desk s.lists.points s.lists.marks)
-step k s cut =
-    effect Length (λ bs. record s.lists { program = bs })
-    (cut_on k s.desk s.lists.points s.lists.marks s.lists.program)
-step k s close =
-    effect Length (λ bs. record s.lists { program = bs }) (close_on s.desk s.lists.program)
-
--- ---- lists of calls on one bench
-
 module _ {P : Type 0} (k : KindMeaning P) where
+  -- one call
+  abbrev pub step : State P → Call → Effect P
+  step s (load l) =
+      effect Vertices (λ ps. record s.lists { points = ps }) (load_on k l s.desk s.lists.points)
+  step s (split t) =
+      effect Counts (λ ms. record s.lists { marks = ms })
+      (split_on k t s.desk s.lists.points s.lists.marks)
+  step s cut =
+      effect Length (λ bs. record s.lists { program = bs })
+      (cut_on k s.desk s.lists.points s.lists.marks s.lists.program)
+  step s close =
+      effect Length (λ bs. record s.lists { program = bs }) (close_on s.desk s.lists.program)
+
+  -- ---- lists of calls on one bench
+
   -- each call starts from what those before it left
   abbrev pub run : State P → List Call → State P
   run s [] = s
-  run s (c ∷ cs) = run (step k s c).after cs
-
-  -- a call is noted if its answer is no refusal
-  abbrev pub noted : Call → Answer → List Call → List Call
-  noted c (Ok report) cs = c ∷ cs
-  noted c (Err e) cs = cs
+  run s (c ∷ cs) = run (step s c).after cs
 
   -- the calls that were accepted, in their order
   abbrev pub accepted : State P → List Call → List Call
   accepted s [] = []
-  accepted s (c ∷ cs) = noted c (step k s c).answer (accepted (step k s c).after cs)
+  accepted s (c ∷ cs) =
+      let later : List Call = accepted (step s c).after cs in
+      if is_ok (step s c).answer then c ∷ later else later
 
 -- a cut, with the latest load and the tolerance of the latest split before it
 pub record Cut : Type 0 where

@@ -4,6 +4,7 @@ use Rattle.std.specs.Float.{nan}
 use Rattle.std.specs.List.{AllByRecursion}
 use Rattle.kinds.specs.Kind.{KindMeaning}
 use Rattle.kinds.specs.Vertex.{Vertex, at, told}
+use Rattle.kinds.specs.declared.count.TheConstants.{MOST_VERTICES}
 use Rattle.words.specs.Numbers.{Word}
 use Rattle.pack.specs.Packing.{PackingMeaning}
 use Rattle.range.specs.Scale.{Scale, IsRange, quanta, width}
@@ -41,11 +42,10 @@ ReadsOnce =
 
 -- ---- strokes and design vertices
 
--- where stroke number n of a chain begins
+-- where stroke number n of a chain begins, and where it ends
 abbrev pub stroke_from : Chain → ℕ → List ℤ
 stroke_from c n = slice_index_or (c.from ∷ c.strokes) n []
 
--- where it ends
 abbrev pub stroke_to : Chain → ℕ → List ℤ
 stroke_to c n = slice_index_or c.strokes n []
 
@@ -61,8 +61,8 @@ m_of_stroke A B = m_of (from_to (step_on A) (step_on B))
 abbrev pub scale_on : List Scale → ℕ → Scale
 scale_on gs j = slice_index_or gs j (record { bits = 0; lower = nan; upper = nan })
 
--- v is off the stroke from A to B, on each axis, by at most half a quantum, half a step and the tolerance together:
--- with one k in 0..m, 2 M |m (v - 16 A) - 16 k d| ≤ m (D + 16 M + 32 M t)
+-- v is off the stroke from A to B, on each axis, by at most half a quantum, half a step and the tolerance
+-- together: with one k in 0..m, 2 M |m (v - 16 A) - 16 k d| ≤ m (D + 16 M + 32 M t)
 pub record Beside (axes t : ℕ) (gs : List Scale) (v : Vertex) (A B : List ℤ) : Type 0 where
   pub along : ℕ
   pub short : along ≤ m_of_stroke A B
@@ -91,7 +91,7 @@ module _ {P : Type 0} (k : KindMeaning P) where
   unfoldable pub must_keep : ℕ → Panel → List P
   must_keep t x = kept_of (marks_of t x) (placed k x)
 
-  -- store, with that load's predictor and packing, writes these design points by these ranges as exactly that load's file
+  -- store, with that load's predictor and packing, writes these design points by these ranges as just that load's file
   pub record Stored (l : Load) (gs : List Scale) (design : List P) : Type 0 where
     pub three : length gs ≡ 3
     pub ranges : AllByRecursion IsRange gs
@@ -105,49 +105,40 @@ module _ {P : Type 0} (k : KindMeaning P) where
         ◌≡◌ {A = StoreOutcome} (store_of k l.predictor packing design gs room before) (Ok size, after)
     pub file : take size after ≡ l.file
 
-  -- stroke number n of the chain is one that vertex i of the design is off by little
-  pub record ByStroke (t : ℕ) (gs : List Scale) (design : List P) (c : Chain) (i n : ℕ) : Type 0 where
-    pub real : n < length c.strokes
-    pub beside : Beside k.axes t gs (at (told k design) i) (stroke_from c n) (stroke_to c n)
+  -- each vertex of a design is off a stroke of the chain by little, and these strokes never go back
+  pub record Follows (t : ℕ) (gs : List Scale) (design : List P) (c : Chain) : Type 0 where
+    -- the number of each vertex's stroke
+    pub stroke : ℕ → ℕ
+    pub real : (i : ℕ) → i < length design → stroke i < length c.strokes
+    -- nothing is farther off than the errors add up to
+    pub near : (i : ℕ) → i < length design →
+        Beside k.axes t gs (at (told k design) i) (stroke_from c (stroke i)) (stroke_to c (stroke i))
+    -- along the vertices the numbers never fall
+    pub onward : (i j : ℕ) → i ≤ j → j < length design → stroke i ≤ stroke j
 
   -- the panel of a cut's load, where the point list has room for any panel
   abbrev pub Meant : Cut → Panel → Type 0
-  Meant w x = meaning_of w.panel k.axes 4096 ≡ Ok x
+  Meant w x = meaning_of w.panel k.axes MOST_VERTICES ≡ Ok x
 
-  -- the chain goes through just the vertices that its split must keep, as placed and in their order
-  pub record Through (w : Cut) (c : Chain) : Type 0 where
+  -- the chain of an accepted cut
+  pub record WellDrawn (w : Cut) (c : Chain) : Type 0 where
     pub panel : Panel
     pub meant : Meant w panel
-    pub vertices : c.from ∷ c.strokes ≡ map (steps k) (must_keep w.tolerance panel)
-
-  -- every design vertex that store wrote as the chain's panel is off a stroke of the chain by little
-  abbrev pub Near : Cut → Chain → Type 0
-  Near w c =
-      (gs : List Scale) (design : List P) → Stored w.panel gs design →
-      (i : ℕ) → i < length design → (n : ℕ) × ByStroke w.tolerance gs design c i n
-
-  -- the chain begins at its panel's first vertex as placed and ends at the last, and such strokes never go back along
-  -- the vertices
-  pub record Onward (w : Cut) (c : Chain) : Type 0 where
-    pub panel : Panel
-    pub meant : Meant w panel
+    -- it goes through just the vertices that the split must keep, as placed and in their order
+    pub through : c.from ∷ c.strokes ≡ map (steps k) (must_keep w.tolerance panel)
+    -- from the first vertex as placed to the last
     pub begins : c.from ≡ steps k (vertex k panel 0)
     pub ends : stroke_to c (length c.strokes - 1) ≡ steps k (vertex k panel (panel.count - 1))
-    pub never_back : (gs : List Scale) (design : List P) → Stored w.panel gs design →
-        (stroke : ℕ → ℕ) ×
-        ((i : ℕ) → i < length design → ByStroke w.tolerance gs design c i (stroke i)) ×
-        ((i j : ℕ) → i ≤ j → j < length design → stroke i ≤ stroke j)
+    -- it follows any design that store wrote as the panel's file
+    pub follows : (gs : List Scale) (design : List P) → Stored w.panel gs design →
+        Follows w.tolerance gs design c
 
-  -- A program, after these accepted calls, misplaces no panel:
+  -- A program, after these accepted calls, misplaces no panel: it is one chain for each accepted cut, well drawn, then the
+  -- finish if a close was accepted, and nothing else.
   pub record MisplacesNone (calls : List Call) (program : List ℕ) : Type 0 where
     pub chains : List Chain
-    -- one chain for each accepted cut, then the finish if a close was accepted, and nothing else
     pub alone : Reads k.axes program chains (closes calls)
-    pub through : Each Through (cuts calls) chains
-    -- nothing is farther off than the errors add up to
-    pub near : Each Near (cuts calls) chains
-    -- from the first vertex to the last, and never back
-    pub onward : Each Onward (cuts calls) chains
+    pub drawn : Each WellDrawn (cuts calls) chains
 
   -- Whatever the calls are given, refused ones among them, and whatever the lists hold at first.
   abbrev pub NoRunMisplacesAPanel : Type 0

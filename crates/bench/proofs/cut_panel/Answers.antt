@@ -10,14 +10,9 @@ returns-clause-placed g c =
     let splits = c.in_ok-split.ensures in
     let cuts = c.in_ok-cut.ensures in
     let closes = c.close.ensures in
-    let d1 = c.load.new.self in
-    let ps1 = c.load.new.points in
-    let d2 = c.split.new.self in
-    let ms2 = c.split.new.marks in
-    let d3 = c.cut.new.self in
-    let bs3 = c.cut.new.program in
     placed k l c.args.tolerance c.args.points.now c.args.marks.now c.args.program.now
-    d1 ps1 _ (rw c.new-bench.ensures at (joined (load_on k l c.new-bench.result c.args.points.now) _ d1 ps1 loads.answer loads.bench loads.points))
-    d2 ms2 _ (joined (split_on k c.args.tolerance d1 ps1 c.args.marks.now) _ d2 ms2 splits.answer splits.bench splits.marks)
-    d3 bs3 _ (joined (cut_on k d2 ps1 ms2 c.args.program.now) _ d3 bs3 cuts.answer cuts.bench cuts.program)
-    c.close.new.self c.close.new.program c.no_run_misplaces.ensures.never _ (joined (close_on d3 bs3) c.close.result c.close.new.self c.close.new.program closes.answer closes.bench closes.program)
+    (rw c.new-bench.ensures at (joined (load_on k l c.new-bench.result c.args.points.now) _ _ _ loads.answer loads.bench loads.points))
+    (joined (split_on k c.args.tolerance c.load.new.self c.load.new.points c.args.marks.now) _ _ _ splits.answer splits.bench splits.marks)
+    (joined (cut_on k c.split.new.self c.load.new.points c.split.new.marks c.args.program.now) _ _ _ cuts.answer cuts.bench cuts.program)
+    _ (joined (close_on c.cut.new.self c.cut.new.program) _ _ _ closes.answer closes.bench closes.program)
+    closes.length c.no_run_misplaces.ensures.never
