@@ -9,9 +9,8 @@ use Rattle.predict.specs.Predictor.{PredictorMeaning}
 use Rattle.predict.specs.Residues.{residues}
 use Rattle.pack.specs.Packing.{PackingMeaning}
 use Rattle.range.specs.Scale.{Scale, in_words}
-use Rattle.panel.specs.Layout.{piece_bytes, end_piece, range_piece, length_piece}
+use Rattle.panel.specs.Layout.{piece_bytes, end_piece, range_piece, length_piece, axis_bytes, rest_bytes, stored_axis, file_of}
 use Rattle.panel.specs.Panel.{Axis, Panel, axis_on, codes_on, inside_on, inside_from, axes_from}
-use Rattle.panel.specs.Written.{axis_bytes, rest_bytes, stored_axis, file_of}
 use Rattle.panel.proofs.PieceBack.{range_sized, length_sized}
 use Rattle.panel.proofs.Points.{drop_is, all_at}
 

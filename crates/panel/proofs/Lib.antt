@@ -6,5 +6,4 @@ pub mod Axes
 pub mod Accepted
 pub mod PanelBack
 pub mod Sound
-pub mod Stores
 pub mod Told

@@ -1,5 +1,6 @@
 -- The panel of design points that lie in their ranges is read back from its file.
-use Rattle.std.proofs.Common.{◌≡◌, ℕ, ◌+◌, true, List, [], ◌∷◌, length, take, refl, ◌∙◌}
+use Rattle.std.proofs.Common.{◌≡◌, ℕ, ◌+◌, true, List, [], ◌∷◌, length, take, refl, ◌∙◌, arith}
+use Rattle.std.proofs.lemmas.Grind.{common_steps}
 use Rattle.std.specs.List.{AllByRecursion, enumerate_from}
 use Rattle.std.proofs.ByRecursion.{All-take}
 use Rattle.std.proofs.lemmas.List.{length-take-le, length-map}
@@ -10,7 +11,7 @@ use Rattle.range.specs.Scale.{Scale, IsRange}
 use Rattle.range.proofs.Ranges.{code-within}
 use Rattle.panel.specs.Faults.{all_codes}
 use Rattle.panel.specs.Panel.{inside_on, codes_on, axes_from, inside_from, panel_of}
-use Rattle.panel.specs.Laws.{EveryFileReadBack}
+use Rattle.panel.specs.Stored.{StoresTheFile, EveryFileReadBack}
 use Rattle.panel.proofs.Accepted.{IsAxis, codes_words}
 use Rattle.panel.proofs.PanelBack.{panel_back}
 
@@ -41,3 +42,7 @@ module _ {P : Type 0} (k : KindMeaning P) where
         sized = length-axes ps 0 used ∙ length-take-le k.axes gs wide;
         sound = axes_sound ps 0 used (All-take IsRange k.axes gs are) inside;
       })
+
+  -- what an accepted store tells of its design points
+  pub stores-the-file : StoresTheFile k
+  stores-the-file m q ps gs room old n out h = grind (arith, common_steps)

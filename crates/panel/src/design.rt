@@ -6,7 +6,7 @@ ghost use Rattle.words.specs.Bytes.{overwritten};
 ghost use Rattle.panel.specs.Panel.{codes_on, inside_from, inside_on, panel_on};
 ghost use Rattle.panel.specs.Faults.{unless};
 ghost use Rattle.panel.specs.Stored.{filed, space_faults};
-ghost use Rattle.panel.specs.Written.{file_of};
+ghost use Rattle.panel.specs.Layout.{file_of};
 
 use crate::axis::write_axis;
 use crate::pieces::{END_LETTER, END_SIZE, HEAD_SIZE, LENGTH_SIZE, RANGE_SIZE, head_piece, put};
@@ -85,7 +85,7 @@ impl<'a, K: PointKind> Design<'a, K> {
     }
 
     // Writes it to the front of `file`; what follows stays.
-    #[tactic(auto, unfolding(crate::specs::Written::file_of), using(crate::proofs::Axes::inside_each, crate::proofs::Axes::length_file))]
+    #[tactic(auto, unfolding(crate::specs::Layout::file_of), using(crate::proofs::Axes::inside_each, crate::proofs::Axes::length_file))]
     fn write<O: ByteOrder, P: Predictor, Q: Packing>(&self, work: &mut [i32], file: &mut [u8])
         requires work { length work.old ≡ length self.now.points.now }
         requires space { let panel = panel_on K.kind self.now.ranges.now self.now.points.now in

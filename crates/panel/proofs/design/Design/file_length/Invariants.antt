@@ -1,7 +1,7 @@
 use Rattle.std.proofs.Common.{◌≡◌, ℕ, List, ◌+◌, ◌*◌, ◌≤◌, length, drop}
 use Rattle.range.specs.Scale.{Scale}
 use Rattle.panel.specs.Panel.{axes_from}
-use Rattle.panel.specs.Written.{rest_bytes}
+use Rattle.panel.specs.Layout.{rest_bytes}
 use Rattle.panel.proofs.design.Design.file_length.Given as goal
 
 -- what is counted, and what is left, is the file (its end is counted first)

@@ -1,8 +1,7 @@
 use Rattle.std.proofs.Common.{◌≡◌, ℕ, ◌+◌, List, ◌++◌, length, drop, sym, ap, ◌∙◌, arith}
 use Rattle.words.specs.Bytes.{overwritten}
-use Rattle.panel.specs.Layout.{piece_bytes, header_piece}
+use Rattle.panel.specs.Layout.{piece_bytes, header_piece, rest_bytes, stored_axis, file_of}
 use Rattle.panel.specs.Panel.{axes_from, panel_on}
-use Rattle.panel.specs.Written.{rest_bytes, stored_axis, file_of}
 use Rattle.panel.proofs.Axes.{length_file, length_stored, length_next, rest_next, rest_end}
 use Rattle.panel.proofs.Overwriting.{over-more, over-one}
 use Rattle.panel.proofs.Sound.{length-axes}

@@ -2,7 +2,7 @@ use Rattle.std.proofs.Common.{◌≡◌, ℕ, List, ◌+◌, length, drop}
 use Rattle.words.specs.Bytes.{overwritten}
 use Rattle.range.specs.Scale.{Scale}
 use Rattle.panel.specs.Panel.{axes_from}
-use Rattle.panel.specs.Written.{rest_bytes}
+use Rattle.panel.specs.Layout.{rest_bytes}
 use Rattle.panel.proofs.design.Design.write.Given as goal
 
 -- what is left, written here, gives the same list
