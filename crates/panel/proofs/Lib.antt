@@ -1,9 +1,6 @@
 pub mod Overwriting
-pub mod Points
 pub mod Faults
-pub mod PieceBack
 pub mod Axes
 pub mod Accepted
-pub mod PanelBack
 pub mod Sound
 pub mod Told

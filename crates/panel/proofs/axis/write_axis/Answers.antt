@@ -3,7 +3,7 @@ use Rattle.words.specs.Bytes.{overwritten}
 use Rattle.range.specs.Scale.{in_words}
 use Rattle.panel.specs.Layout.{piece_bytes, range_piece, length_piece}
 use Rattle.panel.proofs.Overwriting.{over-part, over-whole, over_three}
-use Rattle.panel.proofs.PieceBack.{range_sized, length_sized}
+use Rattle.panel.proofs.Sound.{range_sized, length_sized}
 use Rattle.panel.proofs.axis.write_axis.Goals as goal
 
 pub returns-clause-bytes : goal.returns-clause-bytes
