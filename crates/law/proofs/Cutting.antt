@@ -20,7 +20,7 @@ use Rattle.law.proofs.Steps.{all-kept, all-steps}
 use Rattle.law.proofs.Lies.{length-marks, marks-near, stroke, never-falls, stands, count-strokes, some-strokes, lies_along}
 use lib.Ieee.{nan}
 use Rattle.range.proofs.Ranges.{place-near}
-use Rattle.panel.proofs.Told.{place-told, inside-told}
+use Rattle.panel.proofs.Axes.{place-told, inside-told}
 use Rattle.law.proofs.Trip.{all_in, trip}
 
 pub record Placed {P : Type 0} (k : KindMeaning P) (w : Cut) (c : Chain) : Type 0 where

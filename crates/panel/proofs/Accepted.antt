@@ -1,34 +1,11 @@
 -- What is known of the panel of an accepted file, and of the refusal of any other.
 use Rattle.std.proofs.Common.{◌≡◌, ℕ, zero, suc, ◌^◌, ◌<◌, ◌≤◌, true, List, [], ◌∷◌, length, ℤ, Ok, Err, Result, leb, sym, refl, ap, ◌∙◌, ap₂, subst, ⊎_elim, arith, lit≤}
-use lib.Ieee.{Float, nan, inf, fin, binary32, fits, of_bits}
+use Rattle.panel.proofs.Names.{Float, nan, inf, fin, binary32, fits, of_bits, lt_z, ◌⊎◌, IfOk, IfErr, AllByRecursion, result_map_both, cond_both, and_parts, not-false, leb-true, ltb-false, le-ltb, Word, Order, Why, Refusal, and_then, refusal_at, IsVertexCount, PredictorMeaning, start, values, length-values, ReadingMeaning, Words, Scale, IsRange, quanta, scale_of, plain, code-nat, quanta-small, Rest, rest_at, past, Layout, header_piece, range_piece, length_piece, end_piece, Axis, Panel, Fault, unless, piece_faults, header_faults, range_faults, cut_short, all_codes, code_faults, trailing_faults, taken, bytes_taken, end_at, nothing_follows, scale_at, body_at, Opened, opened, with_axis, head_at, axis_at, axes_at, panel_at, judged}
 use lib.Ieee.Bits.{of_bits-fits, is_true as holds}
-use lib.Signed.{lt_z}
-use Rattle.std.specs.Prelude.{◌⊎◌, IfOk, IfErr}
-use Rattle.std.specs.List.{AllByRecursion}
-use Rattle.std.specs.Result.{result_map_both}
-use Rattle.std.proofs.lemmas.Bool.{cond_both, and_parts, not-false, leb-true, ltb-false, le-ltb}
 use Rattle.std.proofs.lemmas.Float.{T_from_true as passes}
-use Rattle.words.specs.Numbers.{Word}
-use Rattle.words.specs.Order.{Order}
-use Rattle.refusal.specs.declared.Why.{Why}
 use Rattle.refusal.specs.declared.Why.TheVariants.{BodyLength, SpareBits}
-use Rattle.refusal.specs.declared.Refusal.{Refusal}
 use Rattle.refusal.specs.Numbers.{number_of}
-use Rattle.refusal.specs.Refusals.{and_then, refusal_at}
-use Rattle.kinds.specs.Count.{IsVertexCount}
-use Rattle.predict.specs.Predictor.{PredictorMeaning}
-use Rattle.predict.specs.Residues.{start, values}
-use Rattle.predict.proofs.Undone.{length-values}
-use Rattle.pack.specs.Packing.{ReadingMeaning}
-use Rattle.range.specs.declared.words.Words.{Words}
-use Rattle.range.specs.Scale.{Scale, IsRange, quanta, scale_of}
-use Rattle.range.specs.Units.{plain}
 use Rattle.range.proofs.Plain.{plain-good, plain_units, plain_plain}
-use Rattle.range.proofs.Ranges.{code-nat, quanta-small}
-use Rattle.panel.specs.Layout.{Rest, rest_at, past, Layout, header_piece, range_piece, length_piece, end_piece}
-use Rattle.panel.specs.Panel.{Axis, Panel}
-use Rattle.panel.specs.Faults.{Fault, unless, piece_faults, header_faults, range_faults, cut_short, all_codes, code_faults, trailing_faults}
-use Rattle.panel.specs.Judging.{taken, bytes_taken, end_at, nothing_follows, scale_at, body_at, Opened, opened, with_axis, head_at, axis_at, axes_at, panel_at, judged}
 use Rattle.panel.proofs.Faults.{NoneFound, is_count, unless_none, then_ok}
 
 -- an axis of a panel of n vertices
@@ -36,7 +13,6 @@ pub record IsAxis (n : ℕ) (x : Axis) : Type 0 where
   pub scale : IsRange x.scale
   pub long : length x.codes ≡ n
   pub inside : all_codes x.scale x.codes ≡ true
-  pub words : AllByRecursion Word x.codes
 
 -- a panel of so many axes, for a point list of so much room
 pub record IsPanel (axes room : ℕ) (x : Panel) : Type 0 where
@@ -118,8 +94,7 @@ module _ (o : Order) (m : PredictorMeaning) (q : ReadingMeaning) where
       taken_holds Open (length_piece o) s.1 _ (λ v _ _.
       then_holds _ Open (body_at o q n v.0 v.1) _ (body_holds n v.0 v.1) (λ b _ long. (is, long)))))
       (λ x _ known. unless_holds (λ y. IsAxis n y.0) (code_faults x.0.scale (values m x.0.stored) x.0.place) _ (refl, tt) (λ none.
-      let inside : all_codes x.0.scale (values m x.0.stored) ≡ true = not-false _ none.0 in
-      record { scale = known.0; long = length-values m 0 start x.0.stored ∙ known.1; inside = inside; words = codes_words x.0.scale _ known.0 inside }))
+      record { scale = known.0; long = length-values m 0 start x.0.stored ∙ known.1; inside = not-false _ none.0 }))
 
   abbrev Axes : ℕ → ℕ → List Axis × Rest → Type 0
   Axes n a y = (length y.0 ≡ a) × AllByRecursion (IsAxis n) y.0

@@ -1,22 +1,12 @@
 -- The axes of a panel one after another, and the points on each: their codes, what is stored of them, and their pieces.
-use Rattle.std.proofs.Common.{◌≡◌, ℕ, ◌+◌, ◌<◌, ◌≤◌, true, List, ◌++◌, length, get_or, drop, ℤ, sym, ap, ◌∙◌, append_assoc, arith, length-append, Bool, [], ◌∷◌, take, set, append-nil}
-use Rattle.std.specs.List.{flat_map, enumerate_from, list_all}
-use Rattle.std.proofs.lemmas.List.{drop_all, get_or-map, drop_more, take_all, take_more_set}
-use Rattle.std.proofs.lemmas.List.FromFn.{length-enumerate_from, get_or-enumerate_from}
-use Rattle.words.specs.Order.{Order}
-use Rattle.words.specs.Bytes.{overwritten}
+use Rattle.std.proofs.Common.{◌≡◌, ℕ, ◌+◌, ◌<◌, ◌≤◌, true, List, ◌++◌, length, get_or, drop, ℤ, sym, ap, ◌∙◌, append_assoc, arith, length-append, Bool, [], ◌∷◌, take, set, append-nil, zero, suc, pos, refl}
+use Rattle.panel.proofs.Names.{flat_map, enumerate_from, list_all, drop_all, get_or-map, drop_more, take_all, take_more_set, length-enumerate_from, get_or-enumerate_from, Order, overwritten, KindMeaning, PredictorMeaning, residues, after, stored, residues_from, PackingMeaning, Scale, in_words, inside, code_in, piece_bytes, end_piece, range_piece, length_piece, axis_bytes, rest_bytes, stored_axis, file_of, Axis, Panel, axis_on, codes_on, inside_on, inside_from, axes_from, true_from_ne_false, true≢false, get_or_default, get_or-take, length-take-le, place_in, panel_of, all_inside}
 use Rattle.panel.proofs.Overwriting.{over-more}
-use Rattle.kinds.specs.Kind.{KindMeaning}
-use Rattle.predict.specs.Predictor.{PredictorMeaning}
-use Rattle.predict.specs.Residues.{residues, after, stored, residues_from}
-use Rattle.pack.specs.Packing.{PackingMeaning}
-use Rattle.range.specs.Scale.{Scale, in_words, inside, code_in}
-use Rattle.panel.specs.Layout.{piece_bytes, end_piece, range_piece, length_piece, axis_bytes, rest_bytes, stored_axis, file_of}
-use Rattle.panel.specs.Panel.{Axis, Panel, axis_on, codes_on, inside_on, inside_from, axes_from}
-use Rattle.panel.proofs.Sound.{range_sized, length_sized}
-use Rattle.std.proofs.lemmas.Bool.{true_from_ne_false, true≢false}
+use Rattle.panel.proofs.Sound.{range_sized, length_sized, length-axes}
 use Rattle.std.proofs.lemmas.List.Folds.{list_all_at}
 use Rattle.predict.specs.declared.Before.{Before}
+use Rattle.kinds.specs.Vertex.{at, told}
+use Rattle.panel.specs.Placed.{place_at}
 
 -- what is left of a list from an item on
 pub drop_is : {X : Type 0} (xs : List X) (i : ℕ) (x : X) → i < length xs → x ≡ get_or xs i x → drop i xs ≡ x ∷ drop (i + 1) xs
@@ -113,3 +103,43 @@ module _ {P : Type 0} (k : KindMeaning P) (ps : List P) (gs : List Scale) (j : �
   inside_each is all =
       ap (λ r. inside_on k j r ps) is ∙ sym (ap (λ y. inside_on k y.0 y.1 ps) counted)
       ∙ all_at (λ y. inside_on k y.0 y.1 ps) (enumerate_from 0 gs) j (0, g) from_start all
+
+-- the place of vertex i on axis j is that of its code there
+place-on : (xs : List Axis) (j i : ℕ) (x : Axis) → j < length xs → place_at xs j i ≡ place_in (get_or xs j x).scale (get_or (get_or xs j x).codes i (pos 0))
+unfolding place_at
+place-on [] j i x h = absurd (omega arith)
+place-on (y ∷ xs) zero i x h = refl
+place-on (y ∷ xs) (suc j) i x h = place-on xs j i x (omega arith)
+
+module _ {P : Type 0} (k : KindMeaning P) where
+  -- a point of a list
+  point : (ps : List P) (i : ℕ) → i < length ps → P
+  point [] i lt = absurd (omega arith)
+  point (p ∷ ps) i lt = p
+
+  -- the whole panel, at a vertex i and an axis j of the kind
+  module _ (gs : List Scale) (ps : List P) (three : length gs ≡ 3) (j : ℕ) (on : j < k.axes) (g : Scale) (i : ℕ) (lt : i < length ps) where
+    used : j < length (take k.axes gs)
+    used = omega (arith, length-take-le k.axes gs (omega (arith, k.few_axes)))
+
+    tells : at (told k ps) i j ≡ k.coordinate (get_or ps i (point ps i lt)) j
+    tells = ap (λ v. v j) (get_or-map k.coordinate ps i (point ps i lt) _ lt)
+
+    -- its place is that of its coordinate's code
+    pub place-told : place_at (panel_of k gs ps).axes j i ≡ place_in (get_or gs j g) (code_in (get_or gs j g) (at (told k ps) i j))
+    unfolding codes_on
+    place-told =
+        let x : Axis = axis_on k ps j g in
+        let s : Scale = get_or gs j g in
+        let axis : get_or (panel_of k gs ps).axes j x ≡ axis_on k ps j s =
+        axis_is k ps (take k.axes gs) j g used x ∙ ap (axis_on k ps j) (get_or-take k.axes gs j g on) in
+        place-on (panel_of k gs ps).axes j i x (omega (arith, length-axes k ps 0 (take k.axes gs), used))
+        ∙ ap (λ (y : Axis). place_in y.scale (get_or y.codes i (pos 0))) axis
+        ∙ ap (place_in s) (get_or-map (λ p. code_in s (k.coordinate p j)) ps i (point ps i lt) (pos 0) lt ∙ ap (code_in s) (sym tells))
+
+    -- its coordinate lies in the range
+    pub inside-told : all_inside k gs ps ≡ true → inside (get_or gs j g) (at (told k ps) i j) ≡ true
+    inside-told h =
+        let s : Scale = get_or gs j g in
+        let is : s ≡ get_or (take k.axes gs) j s = sym (get_or-take k.axes gs j s on ∙ get_or_default gs j s g (omega (arith, k.few_axes))) in
+        ap (inside s) tells ∙ inside_at k j s ps i (point ps i lt) lt (inside_each k ps (take k.axes gs) j s used is h)

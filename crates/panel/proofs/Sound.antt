@@ -1,39 +1,13 @@
 -- A panel that is written is read back, and so are design points that lie in their ranges.
 use Rattle.std.proofs.Common.{◌≡◌, ℕ, ◌+◌, ◌^◌, ◌<◌, ◌≤◌, List, [], ◌∷◌, ◌++◌, length, take, Ok, not, refl, ap, ◌∙◌, ap₂, append_assoc, arith, length-append, suc, false, ℤ, subst, true, Result, sym}
-use Rattle.std.proofs.lemmas.List.{take_at, drop_at, length-take-le, length-map}
-use Rattle.std.proofs.lemmas.Bool.{le-ltb, eq-eqb, le-leb, and_from, and_parts}
-use Rattle.words.specs.Order.{Order, word_at}
-use Rattle.range.specs.declared.words.Words.{Words}
-use Rattle.panel.specs.Layout.{Rest, Layout, Header, piece_bytes, header_piece, range_piece, length_piece, end_piece, axis_bytes, file_of}
-use Rattle.panel.specs.Faults.{piece_faults, header_faults, range_faults, cut_short, all_codes, code_faults}
-use Rattle.panel.specs.Judging.{taken, bytes_taken, scale_at, body_at, Opened, opened, coded, with_axis, head_at, axis_at, axes_at, panel_at, judged}
+use Rattle.panel.proofs.Names.{take_at, drop_at, length-take-le, length-map, le-ltb, eq-eqb, le-leb, and_from, and_parts, Order, word_at, Words, Rest, Layout, Header, piece_bytes, header_piece, range_piece, length_piece, end_piece, axis_bytes, file_of, piece_faults, header_faults, range_faults, cut_short, all_codes, code_faults, taken, bytes_taken, scale_at, body_at, Opened, opened, coded, with_axis, head_at, axis_at, axes_at, panel_at, judged, binary32, of_bits, to_bits, lt_z, ◌==◌, flat_map, AllByRecursion, enumerate_from, result_map_both, Word, Why, refusal_at, and_then, IsVertexCount, PredictorMeaning, start, residues, values, start-words, values-back, residues-words, length-residues, PackingMeaning, Scale, IsRange, scale_from, in_words, good_end, units_of, stays, code-within, Axis, Panel, inside_on, codes_on, axes_from, inside_from, panel_of, length-enumerate_from, KindMeaning, Refusal}
 use Rattle.panel.proofs.Faults.{unless_none, then_ok}
-use lib.Ieee.{binary32, of_bits, to_bits}
 use lib.Ieee.Bits.{of_bits-to_bits, to_bits-lt, is_true as holds}
-use lib.Signed.{lt_z}
-use Rattle.std.specs.Prelude.{◌==◌}
-use Rattle.std.specs.List.{flat_map, AllByRecursion, enumerate_from}
-use Rattle.std.specs.Result.{result_map_both}
 use Rattle.std.proofs.lemmas.Float.{T_from_true as passes}
-use Rattle.words.specs.Numbers.{Word}
-use Rattle.refusal.specs.declared.Why.{Why}
-use Rattle.refusal.specs.Refusals.{refusal_at, and_then}
-use Rattle.kinds.specs.Count.{IsVertexCount}
-use Rattle.predict.specs.Predictor.{PredictorMeaning}
-use Rattle.predict.specs.Residues.{start, residues, values}
-use Rattle.predict.proofs.Undone.{start-words, values-back, residues-words, length-residues}
-use Rattle.pack.specs.Packing.{PackingMeaning}
-use Rattle.range.specs.Scale.{Scale, IsRange, scale_from, in_words}
-use Rattle.range.specs.Units.{good_end, units_of}
-use Rattle.range.proofs.Ranges.{stays, code-within}
-use Rattle.panel.specs.Panel.{Axis, Panel, inside_on, codes_on, axes_from, inside_from, panel_of}
 use Rattle.panel.proofs.Accepted.{IsAxis, IsPanel, codes_words}
 use Rattle.std.proofs.lemmas.Grind.{common_steps}
 use Rattle.std.proofs.ByRecursion.{All-take}
-use Rattle.std.proofs.lemmas.List.FromFn.{length-enumerate_from}
-use Rattle.kinds.specs.Kind.{KindMeaning}
 use Rattle.panel.specs.Stored.{StoresTheFile, EveryFileReadBack}
-use Rattle.refusal.specs.declared.Refusal.{Refusal}
 
 -- so many bytes at a place
 abbrev rest : List ℕ → ℕ → Rest
@@ -125,8 +99,9 @@ module _ (o : Order) (m : PredictorMeaning) (q : PackingMeaning) (n : ℕ) (coun
       let list : List ℤ = residues m x.codes in
       let few : 0 + length x.codes ≤ 65536 = omega (arith, is.long, counted.1) in
       let long : length list ≡ n = length-residues m 0 start x.codes ∙ is.long in
-      let words : AllByRecursion Word list = residues-words m 0 start x.codes few start-words is.words in
-      let undo : values m list ≡ x.codes = values-back m 0 start x.codes few start-words is.words in
+      let codes : AllByRecursion Word x.codes = codes_words x.scale x.codes is.scale is.inside in
+      let words : AllByRecursion Word list = residues-words m 0 start x.codes few start-words codes in
+      let undo : values m list ≡ x.codes = values-back m 0 start x.codes few start-words codes in
       let body : List ℕ = q.writes o list in
       let R : List ℕ = piece_bytes (range_piece o) (in_words x.scale) in
       let V : List ℕ = piece_bytes (length_piece o) (length body) in
@@ -184,8 +159,7 @@ module _ {P : Type 0} (k : KindMeaning P) where
   axes_sound ps a [] is h = tt
   axes_sound ps a (g ∷ gs) is h =
       let parts = and_parts _ _ h in
-      let codes = codes_within g a ps is.0 parts.0 in
-      (record { scale = is.0; long = length-map ps _; words = codes_words g _ is.0 codes; inside = codes }, axes_sound ps (a + 1) gs is.1 parts.1)
+      (record { scale = is.0; long = length-map ps _; inside = codes_within g a ps is.0 parts.0 }, axes_sound ps (a + 1) gs is.1 parts.1)
 
   pub length-axes : (ps : List P) (a : ℕ) (gs : List Scale) → length (axes_from k ps a gs) ≡ length gs
   unfolding axes_from

@@ -105,7 +105,7 @@ impl<'a, K: PointKind> Design<'a, K> {
             self.fill::<P>(axis, range, work);
             at = write_axis::<O, Q>(range, work, file, at);
         }
-        file[at] = END_LETTER;
+        put(file, at, &[END_LETTER]);
     }
 
     // Fills the work list with what is stored of the points' codes on an axis, by the range in which they lie.
