@@ -106,8 +106,12 @@ fn stored<K: PointKind>(
     work: &mut [i32],
     file: &mut [u8],
 ) -> Result<usize, Refusal>
-    ensures stored { (result, file.new) ≡ store_by_numbers K.kind predictor packing words design.now
-        (length work.old) file.old }
+    ensures answer { let stored = store_by_numbers K.kind predictor packing words design.now
+        (length work.old) file.old in
+        result ≡ stored.0 }
+    ensures file { let stored = store_by_numbers K.kind predictor packing words design.now
+        (length work.old) file.old in
+        file.new ≡ stored.1 }
     ensures ranges { IfOk (ranges_in words) (AllByRecursion IsRange) }
 {
     let ranges = ranges_of(words);

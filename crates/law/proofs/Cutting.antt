@@ -8,10 +8,9 @@ use Rattle.kinds.specs.Kind.{KindMeaning}
 use Rattle.pack.specs.Packing.{ReadingMeaning}
 use Rattle.range.specs.Scale.{Scale, IsRange, quanta, width}
 use Rattle.panel.specs.Panel.{panel_of, all_inside, Panel}
-use Rattle.panel.specs.Written.{file_of}
+use Rattle.panel.specs.Layout.{file_of}
 use Rattle.panel.specs.Judging.{judged}
-use Rattle.panel.proofs.Stores.{stores-the-file}
-use Rattle.panel.proofs.Sound.{every_file_read_back}
+use Rattle.panel.proofs.Sound.{every_file_read_back, stores-the-file}
 use Rattle.law.specs.Calls.{Load, meaning_of, kept_of, Cut}
 use Rattle.law.specs.Law.{Stored, Steps, IsChain, Follows, Meant, WellDrawn, step_on, stroke_from, stroke_to, m_of_stroke, scale_on, marks_of, must_keep}
 use Rattle.kinds.specs.Vertex.{Vertex, at, told, all_close_by}
@@ -25,7 +24,7 @@ use Rattle.law.proofs.Vertices.{length-placed, at-placed, vertex-tells, all-kept
 use Rattle.panel.proofs.Accepted.{accepted as known}
 use lib.Ieee.{nan}
 use Rattle.range.proofs.Ranges.{place-near}
-use Rattle.panel.proofs.Told.{place-told, inside-told}
+use Rattle.panel.proofs.Axes.{place-told, inside-told}
 
 abs-plus : (a b : ℤ) → nat_abs (a +ℤ b) ≤ nat_abs a + nat_abs b
 abs-plus a b = omega (arith, ints, abs_is a, abs_is b, abs_is (a +ℤ b))

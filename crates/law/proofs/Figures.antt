@@ -7,7 +7,7 @@ use Rattle.pack.specs.Packing as P
 use Rattle.range.specs.Scale.{Scale, IsRange, code_in, place_in}
 use Rattle.range.specs.Units.{good_end, units_of, plain}
 use Rattle.panel.specs.Panel.{inside_on, codes_on, axes_from, inside_from}
-use Rattle.panel.specs.Written.{axis_bytes, file_of}
+use Rattle.panel.specs.Layout.{axis_bytes, file_of}
 use Rattle.panel.specs.Faults.{all_codes}
 use Rattle.panel.specs.Judging.{opened, axes_at, panel_at, judged}
 use Rattle.panel.specs.Placed.{place_at, placed}

@@ -1,34 +1,11 @@
 -- What is known of the panel of an accepted file, and of the refusal of any other.
 use Rattle.std.proofs.Common.{◌≡◌, ℕ, zero, suc, ◌^◌, ◌<◌, ◌≤◌, true, List, [], ◌∷◌, length, ℤ, Ok, Err, Result, leb, sym, refl, ap, ◌∙◌, ap₂, subst, ⊎_elim, arith, lit≤}
-use lib.Ieee.{Float, nan, inf, fin, binary32, fits, of_bits}
+use Rattle.panel.proofs.Names.{Float, nan, inf, fin, binary32, fits, of_bits, lt_z, ◌⊎◌, IfOk, IfErr, AllByRecursion, result_map_both, cond_both, and_parts, not-false, leb-true, ltb-false, le-ltb, Word, Order, Why, Refusal, and_then, refusal_at, IsVertexCount, PredictorMeaning, start, values, length-values, ReadingMeaning, Words, Scale, IsRange, quanta, scale_of, plain, code-nat, quanta-small, Rest, rest_at, past, Layout, header_piece, range_piece, length_piece, end_piece, Axis, Panel, Fault, unless, piece_faults, header_faults, range_faults, cut_short, all_codes, code_faults, trailing_faults, taken, bytes_taken, end_at, nothing_follows, scale_at, body_at, Opened, opened, with_axis, head_at, axis_at, axes_at, panel_at, judged}
 use lib.Ieee.Bits.{of_bits-fits, is_true as holds}
-use lib.Signed.{lt_z}
-use Rattle.std.specs.Prelude.{◌⊎◌, IfOk, IfErr}
-use Rattle.std.specs.List.{AllByRecursion}
-use Rattle.std.specs.Result.{result_map_both}
-use Rattle.std.proofs.lemmas.Bool.{cond_both, and_parts, not-false, leb-true, ltb-false, le-ltb}
 use Rattle.std.proofs.lemmas.Float.{T_from_true as passes}
-use Rattle.words.specs.Numbers.{Word}
-use Rattle.words.specs.Order.{Order}
-use Rattle.refusal.specs.declared.Why.{Why}
 use Rattle.refusal.specs.declared.Why.TheVariants.{BodyLength, SpareBits}
-use Rattle.refusal.specs.declared.Refusal.{Refusal}
 use Rattle.refusal.specs.Numbers.{number_of}
-use Rattle.refusal.specs.Refusals.{and_then, refusal_at}
-use Rattle.kinds.specs.Count.{IsVertexCount}
-use Rattle.predict.specs.Predictor.{PredictorMeaning}
-use Rattle.predict.specs.Residues.{start, values}
-use Rattle.predict.proofs.Undone.{length-values}
-use Rattle.pack.specs.Packing.{ReadingMeaning}
-use Rattle.range.specs.declared.words.Words.{Words}
-use Rattle.range.specs.Scale.{Scale, IsRange, is_code, quanta, scale_of}
-use Rattle.range.specs.Units.{plain}
 use Rattle.range.proofs.Plain.{plain-good, plain_units, plain_plain}
-use Rattle.range.proofs.Ranges.{code-nat, quanta-small}
-use Rattle.panel.specs.Layout.{Rest, rest_at, past, Layout, header_piece, range_piece, length_piece, end_piece}
-use Rattle.panel.specs.Panel.{Axis, Panel}
-use Rattle.panel.specs.Faults.{Fault, unless, piece_faults, header_faults, range_faults, cut_short, all_codes, code_faults, trailing_faults}
-use Rattle.panel.specs.Judging.{taken, bytes_taken, end_at, nothing_follows, scale_at, body_at, Opened, opened, with_axis, head_at, axis_at, axes_at, panel_at, judged}
 use Rattle.panel.proofs.Faults.{NoneFound, is_count, unless_none, then_ok}
 
 -- an axis of a panel of n vertices
@@ -36,7 +13,6 @@ pub record IsAxis (n : ℕ) (x : Axis) : Type 0 where
   pub scale : IsRange x.scale
   pub long : length x.codes ≡ n
   pub inside : all_codes x.scale x.codes ≡ true
-  pub words : AllByRecursion Word x.codes
 
 -- a panel of so many axes, for a point list of so much room
 pub record IsPanel (axes room : ℕ) (x : Panel) : Type 0 where
@@ -45,17 +21,15 @@ pub record IsPanel (axes room : ℕ) (x : Panel) : Type 0 where
   pub sized : length x.axes ≡ axes
   pub sound : AllByRecursion (IsAxis x.count) x.axes
 
--- a code is a 32-bit number
-code_word : (g : Scale) (c : ℤ) → IsRange g → is_code g c ≡ true → Word c
-code_word g c is h =
-    let n = code-nat g c h in
-    let small : quanta g < 2 ^ 24 = (quanta-small g is).1 in
-    subst Word (sym n.0) (record { sfits = omega (arith, n.1) })
-
+-- codes are 32-bit numbers
 pub codes_words : (g : Scale) (cs : List ℤ) → IsRange g → all_codes g cs ≡ true → AllByRecursion Word cs
 unfolding all_codes
 codes_words g [] is h = tt
-codes_words g (c ∷ cs) is h = let parts = and_parts _ _ h in (code_word g c is parts.0, codes_words g cs is parts.1)
+codes_words g (c ∷ cs) is h =
+    let parts = and_parts _ _ h in
+    let n = code-nat g c parts.0 in
+    let small : quanta g < 2 ^ 24 = (quanta-small g is).1 in
+    (subst Word (sym n.0) (record { sfits = omega (arith, n.1) }), codes_words g cs is parts.1)
 
 plain_fits : (x : Float) → fits binary32 x ≡ true → fits binary32 (plain x) ≡ true
 unfolding plain fits
@@ -92,47 +66,35 @@ unless_holds : {X : Type 0} (Q : X → Type 0) (fs : List Fault) (good : Result 
 unless_holds Q [] good late q = q tt
 unless_holds Q (f ∷ fs) good late q = cond_both f.found _ _ (Holds Q) (λ _. leb-true _ _ late.0) (λ e. unless_holds Q fs good late.1 (λ none. q (e, none)))
 
--- nothing is said of it
-abbrev Any : {X : Type 0} → X → Type 0
-Any x = Unit {0}
-
-taken_holds : {X : Type 0} (l : Layout X) (r : Rest) → Holds (λ y. y.1 ≡ past l.size r) (taken l r)
-taken_holds l r = unless_holds (λ y. y.1 ≡ past l.size r) (piece_faults l r) _ (refl, (refl, tt)) (λ _. refl)
+-- a piece is taken, and what follows it is left
+taken_holds : {X Y : Type 0} (Q : Y → Type 0) (l : Layout X) (r : Rest) (f : X × Rest → Result Y Refusal) → ((y : X × Rest) → taken l r ≡ Ok y → y.1 ≡ past l.size r → Holds Q (f y)) → Holds Q (and_then (taken l r) f)
+taken_holds Q l r f q =
+    then_holds (λ y. y.1 ≡ past l.size r) Q (taken l r) f (unless_holds (λ y. y.1 ≡ past l.size r) (piece_faults l r) _ (refl, (refl, tt)) (λ _. refl)) q
 
 module _ (o : Order) (m : PredictorMeaning) (q : ReadingMeaning) where
   scale_holds : (r : Rest) → Holds (λ y. IsRange y.0) (scale_at o r)
-  scale_holds r =
-      then_holds _ (λ y. IsRange y.0) (taken (range_piece o) r) _ (taken_holds (range_piece o) r)
-      (λ w _ _. unless_holds (λ y. IsRange y.0) (range_faults w.0 r.at) _ (refl, (refl, (refl, tt))) (is_range w.0 r.at))
+  scale_holds r = taken_holds (λ y. IsRange y.0) (range_piece o) r _ (λ w _ _. unless_holds (λ y. IsRange y.0) (range_faults w.0 r.at) _ (refl, (refl, (refl, tt))) (is_range w.0 r.at))
 
   read_holds : (n at : ℕ) (left : Rest) (r : Result (List ℤ) Why) → IfOk r (λ xs. length xs ≡ n) → IfErr r (λ why. (why ≡ BodyLength) ⊎ (why ≡ SpareBits)) →
       Holds (λ (y : List ℤ × Rest). length y.0 ≡ n) (result_map_both (λ (list : List ℤ). (list, left)) (λ (why : Why). refusal_at why at) r)
   read_holds n at left (Ok list) counts refusals = counts
-  read_holds n at left (Err why) counts refusals =
-      let Q : Why → Type 0 = λ w. 4 ≤ number_of w in
-      ⊎_elim (λ (h : why ≡ BodyLength). subst Q (sym h) (lit≤ tt)) (λ (h : why ≡ SpareBits). subst Q (sym h) (lit≤ tt)) refusals
+  read_holds n at left (Err why) counts refusals = ⊎_elim (λ (h : why ≡ BodyLength). rw h (lit≤ tt)) (λ (h : why ≡ SpareBits). rw h (lit≤ tt)) refusals
 
   body_holds : (n len : ℕ) (r : Rest) → Holds (λ y. length y.0 ≡ n) (body_at o q n len r)
   body_holds n len r =
-      then_holds Any (λ y. length y.0 ≡ n) (bytes_taken len r) _ (unless_holds Any (cut_short len r) _ (refl, tt) (λ _. tt))
+      then_holds (λ _. Unit {0}) (λ y. length y.0 ≡ n) (bytes_taken len r) _ (unless_holds (λ _. Unit {0}) (cut_short len r) _ (refl, tt) (λ _. tt))
       (λ b _ _. read_holds n r.at b.1 (q.reads o n b.0) (q.counts o n b.0) (q.refusals o n b.0))
 
-  abbrev Open : ℕ → Opened × Rest → Type 0
-  Open n y = IsRange y.0.scale × (length y.0.stored ≡ n)
-
-  opened_holds : (n : ℕ) (r : Rest) → Holds (Open n) (opened o q n r)
-  unfolding opened
-  opened_holds n r =
-      then_holds _ (Open n) (scale_at o r) _ (scale_holds r) (λ s _ is.
-      then_holds _ (Open n) (taken (length_piece o) s.1) _ (taken_holds (length_piece o) s.1) (λ v _ _.
-      then_holds _ (Open n) (body_at o q n v.0 v.1) _ (body_holds n v.0 v.1) (λ b _ long. (is, long))))
-
   axis_holds : (n : ℕ) (r : Rest) → Holds (λ y. IsAxis n y.0) (axis_at o m q n r)
+  unfolding opened
   axis_holds n r =
-      then_holds (Open n) (λ y. IsAxis n y.0) (opened o q n r) _ (opened_holds n r) (λ x _ known.
-      unless_holds (λ y. IsAxis n y.0) (code_faults x.0.scale (values m x.0.stored) x.0.place) _ (refl, tt) (λ none.
-      let inside : all_codes x.0.scale (values m x.0.stored) ≡ true = not-false _ none.0 in
-      record { scale = known.0; long = length-values m 0 start x.0.stored ∙ known.1; inside = inside; words = codes_words x.0.scale _ known.0 inside }))
+      let Open : Opened × Rest → Type 0 = λ y. IsRange y.0.scale × (length y.0.stored ≡ n) in
+      then_holds Open (λ y. IsAxis n y.0) (opened o q n r) _
+      (then_holds _ Open (scale_at o r) _ (scale_holds r) (λ s _ is.
+      taken_holds Open (length_piece o) s.1 _ (λ v _ _.
+      then_holds _ Open (body_at o q n v.0 v.1) _ (body_holds n v.0 v.1) (λ b _ long. (is, long)))))
+      (λ x _ known. unless_holds (λ y. IsAxis n y.0) (code_faults x.0.scale (values m x.0.stored) x.0.place) _ (refl, tt) (λ none.
+      record { scale = known.0; long = length-values m 0 start x.0.stored ∙ known.1; inside = not-false _ none.0 }))
 
   abbrev Axes : ℕ → ℕ → List Axis × Rest → Type 0
   Axes n a y = (length y.0 ≡ a) × AllByRecursion (IsAxis n) y.0
@@ -151,34 +113,14 @@ module _ (o : Order) (m : PredictorMeaning) (q : ReadingMeaning) where
 
     head_holds : (r : Rest) → Holds (Headed r) (head_at o m q axes room r)
     head_holds r =
-        then_holds _ (Headed r) (taken (header_piece o) r) _ (taken_holds (header_piece o) r) (λ h was past.
+        taken_holds (Headed r) (header_piece o) r _ (λ h was past.
         unless_holds (Headed r) (header_faults m q axes room h.0 r.at) _ (refl, (refl, (refl, (refl, (refl, tt))))) (λ none. (
           is_count h.0.count none.1.1.1.0,
           ltb-false _ _ none.1.1.1.1.0,
           past,
-          λ wide fits.
-              then_ok (taken (header_piece o) r) h _ was
+          λ wide fits. then_ok (taken (header_piece o) r) h _ was
               ∙ unless_none (header_faults m q axes wide h.0 r.at) _ (none.0, (none.1.0, (none.1.1.0, (none.1.1.1.0, (le-ltb wide h.0.count fits, tt))))),
         )))
-
-    -- a panel from a place on, and what follows its axes
-    abbrev Judged : Rest → Panel × Rest → Type 0
-    Judged r y =
-        IsPanel axes room y.0 × ((wide : ℕ) → y.0.count ≤ wide → panel_at o m q axes wide r ≡ Ok y)
-        × (rest : Rest) × (axes_at o m q y.0.count axes (past 8 r) ≡ Ok (y.0.axes, rest))
-
-    panel_holds : (r : Rest) → Holds (Judged r) (panel_at o m q axes room r)
-    unfolding panel_at
-    panel_holds r =
-        then_holds (Headed r) (Judged r) (head_at o m q axes room r) _ (head_holds r) (λ h _ head.
-        then_holds (Axes h.0 axes) (Judged r) (axes_at o m q h.0 axes h.1) _ (axes_holds h.0 axes h.1) (λ x walked all.
-        then_holds Any (Judged r) (end_at x.1) _ (then_holds _ Any (taken end_piece x.1) _ (taken_holds end_piece x.1) (λ _ _ _. tt)) (λ e ended _. (
-          record { counted = head.0; fits = head.1; sized = all.0; sound = all.1 },
-          λ wide room.
-              then_ok (head_at o m q axes wide r) h _ (head.3 wide room) ∙ then_ok (axes_at o m q h.0 axes h.1) x _ walked ∙ then_ok (end_at x.1) e _ ended,
-          x.1,
-          ap (axes_at o m q h.0 axes) (sym head.2) ∙ walked,
-        ))))
 
     -- an accepted file: its panel, which it means wherever there is room for so many, and its axes, which follow N
     pub record Accepted (file : List ℕ) (x : Panel) : Type 0 where
@@ -187,17 +129,27 @@ module _ (o : Order) (m : PredictorMeaning) (q : ReadingMeaning) where
       pub rest : Rest
       pub walked : axes_at o m q x.count axes (past 8 (rest_at file 0)) ≡ Ok (x.axes, rest)
 
+    -- a panel and what follows it: all that, if nothing does
+    abbrev Judged : List ℕ → Panel × Rest → Type 0
+    Judged file y = nothing_follows y.1 ≡ Ok tt → Accepted file y.0
+
     judged_holds : (file : List ℕ) → Holds (Accepted file) (judged o m q axes room file)
-    unfolding judged
+    unfolding judged panel_at
     judged_holds file =
         let r : Rest = rest_at file 0 in
-        then_holds (Judged r) (Accepted file) (panel_at o m q axes room r) _ (panel_holds r) (λ p _ known.
-        then_holds Any (Accepted file) (nothing_follows p.1) _ (unless_holds Any (trailing_faults p.1) _ (refl, tt) (λ _. tt)) (λ e ended _. record {
-          is = known.0;
-          anyway = λ wide room. then_ok (panel_at o m q axes wide r) p _ (known.1 wide room) ∙ then_ok (nothing_follows p.1) e _ ended;
-          rest = known.2;
-          walked = known.3;
-        }))
+        then_holds (Judged file) (Accepted file) (panel_at o m q axes room r) _
+        (then_holds (Headed r) (Judged file) (head_at o m q axes room r) _ (head_holds r) (λ h _ head.
+        then_holds (Axes h.0 axes) (Judged file) (axes_at o m q h.0 axes h.1) _ (axes_holds h.0 axes h.1) (λ x walked all.
+        then_holds (λ _. Unit {0}) (Judged file) (end_at x.1) _ (taken_holds (λ _. Unit {0}) end_piece x.1 _ (λ _ _ _. tt)) (λ e ended _ ends. record {
+          is = record { counted = head.0; fits = head.1; sized = all.0; sound = all.1 };
+          anyway = λ wide room.
+              then_ok (panel_at o m q axes wide r) (record { count = h.0; axes = x.0 }, e) _
+              (then_ok (head_at o m q axes wide r) h _ (head.3 wide room) ∙ then_ok (axes_at o m q h.0 axes h.1) x _ walked ∙ then_ok (end_at x.1) e _ ended)
+              ∙ then_ok (nothing_follows e) tt _ ends;
+          rest = x.1;
+          walked = ap (axes_at o m q h.0 axes) (sym head.2) ∙ walked;
+        }))))
+        (λ p _ known. then_holds (λ _. Unit {0}) (Accepted file) (nothing_follows p.1) _ (unless_holds (λ _. Unit {0}) (trailing_faults p.1) _ (refl, tt) (λ _. tt)) (λ e ended _. known ended))
 
     pub accepted : (file : List ℕ) (x : Panel) → judged o m q axes room file ≡ Ok x → Accepted file x
     accepted file x e = subst (Holds (Accepted file)) e (judged_holds file)

@@ -1,11 +1,6 @@
 -- Steps and faults: what an answer tells that is no refusal.
 use Rattle.std.proofs.Common.{◌≡◌, ℕ, false, not, List, [], ◌∷◌, Ok, Err, Result, sym, refl, ap, ◌∙◌, true≢false, is_ok}
-use Rattle.std.specs.List.{AllByRecursion}
-use Rattle.std.proofs.lemmas.Bool.{cond-false, cond_both, and_parts, not-false, leb-true}
-use Rattle.kinds.specs.Count.{IsVertexCount, is_vertex_count}
-use Rattle.refusal.specs.declared.Refusal.{Refusal}
-use Rattle.refusal.specs.Refusals.{and_then}
-use Rattle.panel.specs.Faults.{Fault, unless}
+use Rattle.panel.proofs.Names.{AllByRecursion, cond-false, and_parts, not-false, leb-true, IsVertexCount, is_vertex_count, Refusal, and_then, Fault, unless}
 
 -- none of the faults is found
 abbrev pub NoneFound : List Fault → Type 0
@@ -18,12 +13,6 @@ unless_none (f ∷ fs) good none = cond-false f.found _ _ none.0 ∙ unless_none
 -- an answer that is no refusal, from one that was none
 pub ok_ne_err : {X E : Type 0} {x : X} {e : E} → ◌≡◌ {A = Result X E} (Ok x) (Err e) → ⊥
 ok_ne_err h = true≢false (ap is_ok h)
-
-pub unless_was : {X : Type 0} (fs : List Fault) (good : Result X Refusal) (x : X) → unless fs good ≡ Ok x → NoneFound fs × (good ≡ Ok x)
-unless_was [] good x e = (tt, e)
-unless_was (f ∷ fs) good x e =
-    cond_both f.found _ _ (λ r. r ≡ Ok x → (NoneFound (f ∷ fs)) × (good ≡ Ok x)) (λ _ h. absurd (ok_ne_err (sym h)))
-    (λ n h. let more = unless_was fs good x h in ((n, more.0), more.1)) e
 
 pub is_count : (n : ℕ) → not (is_vertex_count n) ≡ false → IsVertexCount n
 is_count n h = let parts = and_parts _ _ (not-false _ h) in (leb-true _ _ parts.0, leb-true _ _ parts.1)

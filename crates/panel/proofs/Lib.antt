@@ -1,10 +1,6 @@
+pub mod Names
 pub mod Overwriting
-pub mod Points
 pub mod Faults
-pub mod PieceBack
 pub mod Axes
 pub mod Accepted
-pub mod PanelBack
 pub mod Sound
-pub mod Stores
-pub mod Told

@@ -1,7 +1,13 @@
--- How the pieces of a panel file lie in its bytes: one layout to read and to write each of them.
-use Rattle.std.specs.Prelude.{ℕ, ◌+◌, List, [], ◌∷◌, ◌++◌, drop, slice_index}
+-- How the pieces of a panel file lie in its bytes: one layout to read and to write each of them, and the file of a panel.
+use Rattle.std.specs.Prelude.{ℕ, ◌+◌, List, [], ◌∷◌, ◌++◌, length, drop, ℤ, slice_index}
+use Rattle.std.specs.List.{flat_map}
 use Rattle.words.specs.Order.{Order, word_at}
+use Rattle.predict.specs.Predictor.{PredictorMeaning}
+use Rattle.predict.specs.Residues.{residues}
+use Rattle.pack.specs.Packing.{PackingMeaning}
 use Rattle.range.specs.declared.words.Words.{Words}
+use Rattle.range.specs.Scale.{Scale, in_words}
+use Rattle.panel.specs.Panel.{Axis, Panel}
 
 -- what is left of a file, and the place of its first byte
 pub record Rest : Type 0 where
@@ -60,3 +66,25 @@ module _ (o : Order) where
 -- E: the end
 abbrev pub end_piece : Layout (Unit {0})
 end_piece = record { letter = 0x45; size = 1; says = λ bs. tt; operands = λ e. [] }
+
+-- Q, V and the body of what is stored of an axis
+abbrev pub stored_axis : Order → PackingMeaning → Scale → List ℤ → List ℕ
+stored_axis o q s list =
+    let body : List ℕ = q.writes o list in
+    piece_bytes (range_piece o) (in_words s) ++ (piece_bytes (length_piece o) (length body) ++ body)
+
+module _ (o : Order) (m : PredictorMeaning) (q : PackingMeaning) where
+  -- of an axis is stored what the predictor leaves of its codes
+  unfoldable pub axis_bytes : Axis → List ℕ
+  axis_bytes x = stored_axis o q x.scale (residues m x.codes)
+
+  -- the pieces after N
+  abbrev pub rest_bytes : List Axis → List ℕ
+  rest_bytes xs = flat_map axis_bytes xs ++ piece_bytes end_piece tt
+
+  -- the whole file
+  unfoldable pub file_of : Panel → List ℕ
+  file_of x =
+      piece_bytes (header_piece o)
+      (record { axes = length x.axes; predictor = m.number; packing = q.reading.number; count = x.count })
+      ++ rest_bytes x.axes

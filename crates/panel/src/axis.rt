@@ -2,7 +2,7 @@
 ghost use Rattle.std.specs.Prelude.{◌≡◌, ◌+◌, ◌≤◌, length};
 ghost use Rattle.kinds.specs.Count.{IsVertexCount};
 ghost use Rattle.words.specs.Bytes.{overwritten};
-ghost use Rattle.panel.specs.Written.{stored_axis};
+ghost use Rattle.panel.specs.Layout.{stored_axis};
 
 use crate::pieces::{LENGTH_SIZE, RANGE_SIZE, length_piece, put, range_piece};
 use pack::Packing;

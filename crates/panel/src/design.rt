@@ -6,7 +6,7 @@ ghost use Rattle.words.specs.Bytes.{overwritten};
 ghost use Rattle.panel.specs.Panel.{codes_on, inside_from, inside_on, panel_on};
 ghost use Rattle.panel.specs.Faults.{unless};
 ghost use Rattle.panel.specs.Stored.{filed, space_faults};
-ghost use Rattle.panel.specs.Written.{file_of};
+ghost use Rattle.panel.specs.Layout.{file_of};
 
 use crate::axis::write_axis;
 use crate::pieces::{END_LETTER, END_SIZE, HEAD_SIZE, LENGTH_SIZE, RANGE_SIZE, head_piece, put};
@@ -70,7 +70,7 @@ impl<'a, K: PointKind> Design<'a, K> {
     }
 
     // How many bytes the file takes.
-    #[tactic(auto, using(crate::proofs::Axes::inside_each, crate::proofs::Axes::length_next))]
+    #[tactic(auto, using(crate::proofs::Axes::inside_each, crate::proofs::Axes::length_file, crate::proofs::Axes::length_next, crate::proofs::Axes::length_end))]
     fn file_length<O: ByteOrder, P: Predictor, Q: Packing>(&self, work: &mut [i32]) -> usize
         requires { length work.old ≡ length self.now.points.now }
         ensures { let panel = panel_on K.kind self.now.ranges.now self.now.points.now in
@@ -85,7 +85,7 @@ impl<'a, K: PointKind> Design<'a, K> {
     }
 
     // Writes it to the front of `file`; what follows stays.
-    #[tactic(auto, unfolding(crate::specs::Written::file_of), using(crate::proofs::Axes::inside_each, crate::proofs::Axes::length_file))]
+    #[tactic(auto, unfolding(crate::specs::Layout::file_of), using(crate::proofs::Axes::inside_each, crate::proofs::Axes::length_file))]
     fn write<O: ByteOrder, P: Predictor, Q: Packing>(&self, work: &mut [i32], file: &mut [u8])
         requires work { length work.old ≡ length self.now.points.now }
         requires space { let panel = panel_on K.kind self.now.ranges.now self.now.points.now in
@@ -105,7 +105,7 @@ impl<'a, K: PointKind> Design<'a, K> {
             self.fill::<P>(axis, range, work);
             at = write_axis::<O, Q>(range, work, file, at);
         }
-        file[at] = END_LETTER;
+        put(file, at, &[END_LETTER]);
     }
 
     // Fills the work list with what is stored of the points' codes on an axis, by the range in which they lie.

@@ -2,8 +2,7 @@
 #![tactic(auto)]
 
 ghost use Rattle.std.specs.Prelude.{◌≡◌, length};
-ghost use Rattle.panel.specs.Stored.{store_of};
-ghost use Rattle.panel.specs.Laws.{StoresTheFile, EveryFileReadBack};
+ghost use Rattle.panel.specs.Stored.{store_of, StoresTheFile, EveryFileReadBack};
 
 use kinds::{FEWEST_VERTICES, MOST_VERTICES, PointKind};
 use pack::Packing;
@@ -27,8 +26,12 @@ pub fn store<K: PointKind, P: Predictor, Q: Packing>(
     work: &mut [i32],
     file: &mut [u8],
 ) -> Result<usize, Refusal>
-    ensures does { let room = length work.old in
-        (result, file.new) ≡ store_of K.kind P.means Q.means design.now ranges.now room file.old }
+    ensures answer { let stored = store_of K.kind P.means Q.means design.now ranges.now
+        (length work.old) file.old in
+        result ≡ stored.0 }
+    ensures file { let stored = store_of K.kind P.means Q.means design.now ranges.now
+        (length work.old) file.old in
+        file.new ≡ stored.1 }
     ensures writes { StoresTheFile K.kind }
     ensures back { EveryFileReadBack K.kind }
 {

@@ -29,8 +29,9 @@ impl<K: PointKind> Task for Store<'_, K> {
 
     // the list stays the one that was lent
     ghost answers = { λ old p q new said. (new.file.ghost_name ≡ old.file.ghost_name) ×
-        ((said, new.file.now) ≡
-        store_of K.kind p q old.design.now old.ranges.now (length old.work.now) old.file.now) };
+        (let stored = store_of K.kind p q old.design.now old.ranges.now
+        (length old.work.now) old.file.now in
+        (said ≡ stored.0) × (new.file.now ≡ stored.1)) };
 
     fn run<P: Predictor, Q: Packing>(&mut self) -> Result<usize, Refusal> {
         store::<K, P, Q>(self.design, self.ranges, self.work, self.file)

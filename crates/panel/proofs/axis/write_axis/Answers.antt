@@ -1,9 +1,7 @@
 use Rattle.std.proofs.Common.{ℕ, ◌+◌, List, length, drop, sym, ap, ap₂, ◌∙◌, arith}
-use Rattle.words.specs.Bytes.{overwritten}
-use Rattle.range.specs.Scale.{in_words}
-use Rattle.panel.specs.Layout.{piece_bytes, range_piece, length_piece}
+use Rattle.panel.proofs.Names.{overwritten, in_words, piece_bytes, range_piece, length_piece}
 use Rattle.panel.proofs.Overwriting.{over-part, over-whole, over_three}
-use Rattle.panel.proofs.PieceBack.{range_sized, length_sized}
+use Rattle.panel.proofs.Sound.{range_sized, length_sized}
 use Rattle.panel.proofs.axis.write_axis.Goals as goal
 
 pub returns-clause-bytes : goal.returns-clause-bytes

@@ -1,6 +1,5 @@
 use Rattle.std.proofs.Common.{◌≡◌, ◌++◌, take, drop}
-use Rattle.predict.specs.Residues.{residues, residues_from}
-use Rattle.panel.specs.Panel.{codes_on}
+use Rattle.panel.proofs.Names.{residues, residues_from, codes_on}
 use Rattle.panel.proofs.design.Design.fill.Given as goal
 
 -- what is filled, and what is stored of the rest, is what is stored of all

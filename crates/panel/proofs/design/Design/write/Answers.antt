@@ -1,58 +1,38 @@
-use Rattle.std.proofs.Common.{◌≡◌, ℕ, ◌+◌, List, ◌++◌, length, drop, sym, ap, ◌∙◌, arith}
-use Rattle.words.specs.Bytes.{overwritten}
-use Rattle.panel.specs.Layout.{piece_bytes, header_piece}
-use Rattle.panel.specs.Panel.{axes_from, panel_on}
-use Rattle.panel.specs.Written.{rest_bytes, stored_axis, file_of}
-use Rattle.panel.proofs.Axes.{length_file, length_stored, length_next, rest_next, rest_end}
-use Rattle.panel.proofs.Overwriting.{over-more, over-one}
+use Rattle.std.proofs.Common.{◌≡◌, ℕ, List, ◌++◌, length, sym, ap, ◌∙◌, arith}
+use Rattle.panel.proofs.Names.{overwritten, piece_bytes, header_piece, rest_bytes, file_of, axes_from, panel_on}
+use Rattle.panel.proofs.Axes.{length_file, length_stored, length_next, write_next, rest_end}
+use Rattle.panel.proofs.Overwriting.{over-more}
 use Rattle.panel.proofs.Sound.{length-axes}
 use Rattle.panel.proofs.design.Design.write.Goals as goal
 
 pub write_axis-at-requires-clause-space : goal.write_axis-at-requires-clause-space
 write_axis-at-requires-clause-space g c =
-    let o = g.O.ByteOrder.order in
-    let m = g.P.Predictor.means in
-    let q = g.Q.Packing.means in
+    let o = g.O.ByteOrder.order in let m = g.P.Predictor.means in let q = g.Q.Packing.means in let k = g.K.PointKind.kind in
     let s = c.args.self.now in
-    let d = c.range-item.result in
-    let work = c.fill.new.work in
-    omega (
-      arith,
-      length_file o m q (panel_on g.K.PointKind.kind s.ranges.now s.points.now),
-      length_stored o q d work,
-      length_next o m q g.K.PointKind.kind s.points.now s.ranges.now c.loop-axis.axis d work c.loop-axis-test.true c.range-item.is c.fill.ensures,
-    )
+    let long = length_next o m q k s.points.now s.ranges.now c.loop-axis.axis c.range-item.result c.fill.new.work c.loop-axis-test.true c.range-item.is c.fill.ensures in
+    omega (arith, long, length_file o m q (panel_on k s.ranges.now s.points.now), length_stored o q c.range-item.result c.fill.new.work)
 
 pub loop-axis-preserved : goal.loop-axis-preserved
 loop-axis-preserved g c =
-    let o = g.O.ByteOrder.order in
-    let m = g.P.Predictor.means in
-    let q = g.Q.Packing.means in
-    let k = g.K.PointKind.kind in
+    let o = g.O.ByteOrder.order in let m = g.P.Predictor.means in let q = g.Q.Packing.means in let k = g.K.PointKind.kind in
     let s = c.args.self.now in
     let l = c.loop-axis in
     let d = c.range-item.result in
     let work = c.fill.new.work in
-    let rest : List ℕ = rest_bytes o m q (axes_from k s.points.now (l.axis + 1) (drop (l.axis + 1) s.ranges.now)) in
-    let more = rest_next o m q k s.points.now s.ranges.now l.axis d work c.loop-axis-test.true c.range-item.is c.fill.ensures in
-    let long = length_next o m q k s.points.now s.ranges.now l.axis d work c.loop-axis-test.true c.range-item.is c.fill.ensures in
-    let bytes = length_stored o q d work in
     let whole = length_file o m q (panel_on k s.ranges.now s.points.now) in
+    let long = length_next o m q k s.points.now s.ranges.now l.axis d work c.loop-axis-test.true c.range-item.is c.fill.ensures in
     record {
       bytes =
-          ap (λ (f : List ℕ). overwritten f c.write_axis-at.result rest) c.write_axis-at.ensures.bytes
-          ∙ over-more l.file l.at (stored_axis o q d work) (omega arith) c.write_axis-at.result rest c.write_axis-at.ensures.next
-          ∙ sym (ap (overwritten l.file l.at) more) ∙ l.invariant.bytes;
-      room = omega (arith, c.write_axis-at.ensures.next);
+          write_next o m q k s.points.now s.ranges.now l.axis d work c.loop-axis-test.true c.range-item.is c.fill.ensures
+          l.file _ l.at _ (omega (arith, whole)) c.write_axis-at.ensures.bytes c.write_axis-at.ensures.next
+          ∙ l.invariant.bytes;
+      room = omega (arith, long, length_stored o q d work, c.write_axis-at.ensures.next);
     }
 
 pub returns : goal.returns
 unfolding file_of
 returns g c =
-    let o = g.O.ByteOrder.order in
-    let m = g.P.Predictor.means in
-    let q = g.Q.Packing.means in
-    let k = g.K.PointKind.kind in
+    let o = g.O.ByteOrder.order in let m = g.P.Predictor.means in let q = g.Q.Packing.means in let k = g.K.PointKind.kind in
     let ps = c.args.self.now.points.now in
     let gs = c.args.self.now.ranges.now in
     let file : List ℕ = c.args.file.now in
@@ -65,8 +45,7 @@ returns g c =
     let eight = ap length head in
     let four = o.four (length ps) in
     let whole = length_file o m q (panel_on k gs ps) in
-    over-one l.file l.at 69 (omega (arith, ap length end))
-    ∙ sym (ap (overwritten l.file l.at) end)
+    c.put-2.ensures ∙ sym (ap (overwritten l.file l.at) end)
     ∙ l.invariant.bytes
     ∙ ap (λ (f : List ℕ). overwritten f 8 all) c.put.ensures
     ∙ over-more file 0 c.head_piece-head.result (omega arith) 8 all (omega arith)

@@ -1,15 +1,13 @@
-use Rattle.std.proofs.Common.{◌≡◌, ℕ, List, ◌+◌, length, drop}
-use Rattle.words.specs.Bytes.{overwritten}
-use Rattle.range.specs.Scale.{Scale}
-use Rattle.panel.specs.Panel.{axes_from}
-use Rattle.panel.specs.Written.{rest_bytes}
+use Rattle.std.proofs.Common.{◌≡◌, ◌+◌, length}
+use Rattle.panel.proofs.Names.{overwritten}
+use Rattle.panel.proofs.Axes.{left}
 use Rattle.panel.proofs.design.Design.write.Given as goal
 
 -- what is left, written here, gives the same list
 abbrev pub invariant-loop-axis : goal.invariant-loop-axis
 invariant-loop-axis g l =
-    let left = λ (axis : ℕ) (ranges : List Scale). rest_bytes g.O.ByteOrder.order g.P.Predictor.means g.Q.Packing.means (axes_from g.K.PointKind.kind l.self.points.now axis ranges) in
+    let rest = left g.O.ByteOrder.order g.P.Predictor.means g.Q.Packing.means g.K.PointKind.kind l.self.points.now l.range-items in
     record {
-      bytes : overwritten l.file l.at (left l.axis (drop l.axis l.range-items)) ≡ overwritten l.initial.file 8 (left 0 l.range-items);
-      room : l.at + length (left l.axis (drop l.axis l.range-items)) ≡ 8 + length (left 0 l.range-items);
+      bytes : overwritten l.file l.at (rest l.axis) ≡ overwritten l.initial.file 8 (rest 0);
+      room : l.at + length (rest l.axis) ≡ 8 + length (rest 0);
     }
