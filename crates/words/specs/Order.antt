@@ -1,21 +1,29 @@
 -- The order in which the four bytes of a number stand.
-use Rattle.std.specs.Prelude.{◌≡◌, refl, ℕ, ◌^◌, ◌<◌, List, length, map, take, drop, ℤ}
+use Rattle.std.specs.Prelude.{◌≡◌, refl, ℕ, ◌^◌, ◌<◌, List, length, map, take, drop, slice_index, ℤ}
 use Rattle.std.specs.Int.{w32, to_le_bytes, from_le_bytes}
 use Rattle.std.specs.List.{flat_map}
 use Rattle.std.specs.Simd.{first_chunks}
-use Rattle.std.proofs.Common.{to_z, of_z}
-use Rattle.std.proofs.lemmas.Nat.{from_le_bytes-to_le_bytes_4}
+use Rattle.std.proofs.Common.{to_z, of_z, arith}
+use Rattle.std.proofs.lemmas.Nat.{from_le_bytes-to_le_bytes_4, le_bytes_4}
 
--- A byte order writes a number below 2 ^ 32 as four bytes, and reads it again.
+-- A byte order writes a number below 2 ^ 32 as four bytes, and reads it again. Any four bytes are read as such a number, and
+-- it is written as these.
 pub record Order : Type 0 where
   pub writes : ℕ → List ℕ
   pub reads : List ℕ → ℕ
   pub four : (n : ℕ) → length (writes n) ≡ 4
   pub back : (n : ℕ) → n < 2 ^ 32 → reads (writes n) ≡ n
+  pub only : (bytes : List ℕ) → length bytes ≡ 4 → ((i : ℕ) → slice_index bytes i < 256) → (reads bytes < 2 ^ 32) × (writes (reads bytes) ≡ bytes)
 
 -- the low byte first
 abbrev pub low_first : Order
-low_first = record { writes = to_le_bytes w32; reads = from_le_bytes w32; four = λ n. refl; back = from_le_bytes-to_le_bytes_4 }
+low_first = record {
+  writes = to_le_bytes w32;
+  reads = from_le_bytes w32;
+  four = λ n. refl;
+  back = from_le_bytes-to_le_bytes_4;
+  only = λ bytes long fits. (omega (arith, fits 0, fits 1, fits 2, fits 3), le_bytes_4 bytes _ long fits refl);
+}
 
 -- the number that the four bytes from a place on write
 abbrev pub word_at : Order → List ℕ → ℕ → ℕ
