@@ -23,7 +23,7 @@ use Rattle.pack.specs.Packing.{ReadingMeaning}
 use Rattle.range.specs.declared.words.Words.{Words}
 use Rattle.range.specs.Scale.{Scale, IsRange, is_code, quanta, scale_of}
 use Rattle.range.specs.Units.{plain}
-use Rattle.range.proofs.Plain.{plain-good, plain_units, plain_plain}
+use Rattle.range.proofs.Units.{plain_good, plain_units, plain_plain}
 use Rattle.range.proofs.Ranges.{code-nat, quanta-small}
 use Rattle.panel.specs.Layout.{Rest, rest_at, past, Layout, header_piece, range_piece, length_piece, end_piece}
 use Rattle.panel.specs.Panel.{Axis, Panel}
@@ -73,8 +73,8 @@ is_range w at none =
     let ends = and_parts _ _ (not-false _ none.1.0) in
     record {
       wide = (leb-true _ _ bits.0, leb-true _ _ bits.1);
-      low = (plain-good l ∙ ends.0, plain_plain l);
-      high = (plain-good u ∙ ends.1, plain_plain u);
+      low = (plain_good l ∙ ends.0, plain_plain l);
+      high = (plain_good u ∙ ends.1, plain_plain u);
       ordered = record { lt = passes _ (ap₂ lt_z (plain_units l) (plain_units u) ∙ not-false _ none.1.1.0) };
       held = (plain_fits l (holds _ (of_bits-fits binary32 w.lower)), plain_fits u (holds _ (of_bits-fits binary32 w.upper)));
     }
