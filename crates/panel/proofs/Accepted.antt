@@ -5,7 +5,7 @@ use lib.Ieee.Bits.{of_bits-fits, is_true as holds}
 use Rattle.std.proofs.lemmas.Float.{T_from_true as passes}
 use Rattle.refusal.specs.declared.Why.TheVariants.{BodyLength, SpareBits}
 use Rattle.refusal.specs.Numbers.{number_of}
-use Rattle.range.proofs.Plain.{plain-good, plain_units, plain_plain}
+use Rattle.range.proofs.Units.{plain_good, plain_units, plain_plain}
 use Rattle.panel.proofs.Faults.{NoneFound, is_count, unless_none, then_ok}
 
 -- an axis of a panel of n vertices
@@ -47,8 +47,8 @@ is_range w at none =
     let ends = and_parts _ _ (not-false _ none.1.0) in
     record {
       wide = (leb-true _ _ bits.0, leb-true _ _ bits.1);
-      low = (plain-good l ∙ ends.0, plain_plain l);
-      high = (plain-good u ∙ ends.1, plain_plain u);
+      low = (plain_good l ∙ ends.0, plain_plain l);
+      high = (plain_good u ∙ ends.1, plain_plain u);
       ordered = record { lt = passes _ (ap₂ lt_z (plain_units l) (plain_units u) ∙ not-false _ none.1.1.0) };
       held = (plain_fits l (holds _ (of_bits-fits binary32 w.lower)), plain_fits u (holds _ (of_bits-fits binary32 w.upper)));
     }

@@ -1,5 +1,5 @@
 // A range: a bit count and two ends in millimetres; codes of design coordinates, places of codes.
-ghost use Rattle.std.specs.Prelude.{◌≡◌, ◌+◌, ◌*◌, ◌^◌, ◌<◌, ◌≤◌, true, pos, ◌-ℤ◌, ◌+ℤ◌, ◌*ℤ◌, ◌≤ℤ◌, ◌<ℤ◌, if◌then◌else◌, Some, None, IfOk, IfSome, from_bits, unsigned_abs};
+ghost use Rattle.std.specs.Prelude.{◌≡◌, ◌+◌, ◌*◌, ◌^◌, ◌<◌, ◌≤◌, true, pos, ◌-ℤ◌, ◌*ℤ◌, ◌<ℤ◌, if◌then◌else◌, Some, None, IfOk, IfSome, from_bits, unsigned_abs};
 ghost use Rattle.std.specs.Float.{binary32};
 ghost use Rattle.std.specs.Result.{result_err};
 ghost use Rattle.range.specs.Units.{units_of};
@@ -35,6 +35,7 @@ impl Model for Range {
 
 impl Range {
     // The bits are judged first, then the ends, then their order.
+    #[tactic(auto, using(crate::proofs::Units::plain_good, crate::proofs::Units::plain_units, crate::proofs::Units::plain_plain))]
     pub fn new(bits: u8, lower: f32, upper: f32) -> Result<Range, Why>
         ensures value { result ≡ range_of bits lower upper }
         ensures refused { refusal bits lower upper ≡ result_err result }
@@ -201,6 +202,7 @@ impl From<Range> for Words {
 }
 
 // How many values so many bits have.
+#[tactic(auto, using(crate::proofs::Ranges::values_few))]
 fn values_of(bits: u8) -> u32
     requires { (1 ≤ bits) × (bits ≤ MOST_BITS) }
     ensures value { result ≡ 2 ^ bits }

@@ -1,7 +1,7 @@
 use Rattle.std.proofs.Common.{◌≡◌, ◌*◌, ◌^◌, ◌*ℤ◌, arith, to_z, of_z, w64}
 use borrow.Author.Differences.{ints}
 use Rattle.range.specs.declared.ends.TheConstants.{MOST_BITS, FARTHEST_UNITS}
-use Rattle.range.proofs.Coding.{product_small}
+use Rattle.range.proofs.Ranges.{product_small}
 use Rattle.range.proofs.range.product.Goals as goal
 
 pub returns : goal.returns

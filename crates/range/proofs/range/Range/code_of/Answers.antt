@@ -1,7 +1,7 @@
 use Rattle.std.proofs.Common.{◌≡◌, ◌≤◌, pos, ◌∙◌, arith}
 use borrow.Author.Differences.{ints}
 use Rattle.range.specs.Scale.{code_in}
-use Rattle.range.proofs.Coding.{code_as}
+use Rattle.range.proofs.Ranges.{code_as}
 use Rattle.range.proofs.range.Range.code_of.Goals as goal
 
 code : (c : goal.After-nearest) → (pos c.nearest.result ≡ code_in c.args.self.now c.args.v) × (c.nearest.result ≤ c.from-quanta.result)

@@ -3,7 +3,7 @@ use borrow.Author.Differences.{ints}
 use Rattle.range.specs.declared.ends.TheConstants.{FARTHEST_UNITS}
 use Rattle.range.specs.Scale.{IsRange, place_in, lowest}
 use Rattle.range.specs.Units.{units_of}
-use Rattle.range.proofs.Coding.{place_as}
+use Rattle.range.proofs.Ranges.{place_as}
 use Rattle.range.proofs.range.Range.nearest_step.Goals as goal
 
 abbrev W : ℤ → ℤ
