@@ -16,7 +16,7 @@ use Rattle.pack.specs.Packing.{ReadingMeaning}
 use Rattle.panel.specs.Layout.{Rest, rest_at}
 use Rattle.panel.specs.Judging.{axes_at, judged}
 use Rattle.panel.proofs.Faults.{then_was}
-use Rattle.load.specs.Counted.{count_of}
+use Rattle.load.specs.Pieces.{count_of}
 
 module _ {P : Type 0} (k : KindMeaning P) where
   pub length-fill_on : (a : ℕ) (s : Scale) (cs : List ℤ) (ps : List P) → length (fill_on k a s cs ps) ≡ length ps

@@ -14,7 +14,7 @@ use Rattle.panel.specs.Panel.{Axis}
 use Rattle.panel.specs.Faults.{all_codes}
 use Rattle.panel.specs.Judging.{Opened, opened, coded, with_axis, axes_at}
 use Rattle.load.specs.declared.axis.Axis as read
-use Rattle.load.specs.Counted.{left_of, opened_by}
+use Rattle.load.specs.Pieces.{left_of, told_by, says_axis}
 use Rattle.load.specs.Filling.{fill_on, fill_from, fill_by}
 
 module _ (o : Order) (m : PredictorMeaning) (q : ReadingMeaning) (n : ℕ) where
@@ -36,7 +36,7 @@ module _ (o : Order) (m : PredictorMeaning) (q : ReadingMeaning) (n : ℕ) where
   walk_refused k r e some h = sym (ap left_of (first_refused k r e some h))
 
   -- an axis can be opened where all are accepted
-  pub axis_opens : {O Q : Type 0} (k : ℕ) (r : Rest) (u : Result (read.Axis O Q × Rest) Refusal) → 0 < k → IsOk (axes_at o m q n k r) → opened_by u ≡ opened o q n r → IsOk u
+  pub axis_opens : {O Q : Type 0} (k : ℕ) (r : Rest) (u : Result (read.Axis O Q × Rest) Refusal) → 0 < k → IsOk (axes_at o m q n k r) → told_by says_axis u ≡ opened o q n r → IsOk u
   axis_opens k r (Ok x) some ok h = refl
   axis_opens k r (Err e) some ok h = absurd (true≢false (sym ok ∙ ap is_ok (first_refused k r e some h)))
 

@@ -5,7 +5,7 @@ ghost use Rattle.panel.specs.Faults.{all_codes};
 ghost use Rattle.panel.specs.Layout.{header_piece};
 ghost use Rattle.panel.specs.Judging.{axes_at, judged};
 ghost use Rattle.panel.specs.Placed.{filled};
-ghost use Rattle.load.specs.Counted.{count_of};
+ghost use Rattle.load.specs.Pieces.{count_of};
 ghost use Rattle.load.specs.Filling.{moved, fill_on, fill_by};
 
 use crate::axis::Axis;

@@ -1,6 +1,6 @@
 use Rattle.std.proofs.Common.{◌+◌, ◌-◌, Err, sym, ap, ◌∙◌, arith, rules}
 use Rattle.panel.specs.Faults.{all_codes}
-use Rattle.load.specs.Counted.{says_axis}
+use Rattle.load.specs.Pieces.{says_axis}
 use Rattle.load.proofs.Codes.{codes_go, codes_past, codes_astray}
 use Rattle.load.proofs.Walk.{walks}
 use Rattle.load.proofs.judge.axes.Goals as goal

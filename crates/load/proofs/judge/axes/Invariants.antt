@@ -1,7 +1,7 @@
 use Rattle.std.proofs.Common.{◌≡◌, ◌-◌}
 use Rattle.panel.specs.Faults.{all_codes}
 use Rattle.panel.specs.Judging.{axes_at}
-use Rattle.load.specs.Counted.{left_of}
+use Rattle.load.specs.Pieces.{left_of}
 use Rattle.load.proofs.judge.axes.Given as goal
 
 -- the codes that are left tell of the whole axis
