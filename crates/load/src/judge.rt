@@ -85,7 +85,7 @@ fn head<'a, O: ByteOrder, K: PointKind, P: Predictor, Q: Unpacking>(
 }
 
 // Q, V and a body for each axis, in which every code is one of its range: what follows them.
-#[tactic(auto, using(crate::proofs::Walk::walk_refused, crate::proofs::Walk::no_axes))]
+#[tactic(auto, using(crate::proofs::Axes::axes_refused, crate::proofs::Axes::no_axes))]
 fn axes<'a, O: ByteOrder, P: Predictor, Q: Unpacking>(
     rest: Rest<'a>,
     count: usize,

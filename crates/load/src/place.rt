@@ -19,7 +19,7 @@ use words::ByteOrder;
 
 // The vertices of a file that is accepted. It stands apart, so that its frame is not held while a file is judged.
 #[inline(never)]
-#[tactic(auto, using(crate::proofs::Points::axes_accepted))]
+#[tactic(auto, using(crate::proofs::Axes::axes_accepted, crate::proofs::Axes::placed_all))]
 pub fn place<O: ByteOrder, K: PointKind + Copy, P: Predictor, Q: Unpacking>(
     file: &[u8],
     n: VertexCount,
@@ -37,7 +37,7 @@ pub fn place<O: ByteOrder, K: PointKind + Copy, P: Predictor, Q: Unpacking>(
 }
 
 // The vertices on each axis, where the axes are accepted.
-#[tactic(auto, using(crate::proofs::Walk::axis_opens, crate::proofs::Walk::no_axes), unfolding(crate::specs::Filling::fill_from))]
+#[tactic(auto, using(crate::proofs::Axes::axis_opens, crate::proofs::Axes::no_axes), unfolding(crate::specs::Filling::fill_from))]
 fn place_axes<O: ByteOrder, K: PointKind + Copy, P: Predictor, Q: Unpacking>(
     rest: Rest<'_>,
     n: VertexCount,

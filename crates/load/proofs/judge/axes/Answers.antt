@@ -2,7 +2,7 @@ use Rattle.std.proofs.Common.{◌+◌, ◌-◌, Err, sym, ap, ◌∙◌, arith, 
 use Rattle.panel.specs.Faults.{all_codes}
 use Rattle.load.specs.Pieces.{says_axis}
 use Rattle.load.proofs.Codes.{codes_next}
-use Rattle.load.proofs.Walk.{walks}
+use Rattle.load.proofs.Axes.{walks}
 use Rattle.load.proofs.judge.axes.Goals as goal
 
 pub loop-code-preserved : goal.loop-code-preserved

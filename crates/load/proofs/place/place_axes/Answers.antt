@@ -1,7 +1,7 @@
 use Rattle.std.proofs.Common.{◌≡◌, ◌+◌, ◌-◌, suc, refl, sym, ap, ◌∙◌, arith}
 use Rattle.load.specs.Pieces.{told_by, says_axis}
 use Rattle.load.specs.Filling.{fill_by}
-use Rattle.load.proofs.Walk.{filling}
+use Rattle.load.proofs.Axes.{filling}
 use Rattle.load.proofs.place.place_axes.Goals as goal
 
 pub place_axis-requires-clause-coded : goal.place_axis-requires-clause-coded

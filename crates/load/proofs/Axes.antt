@@ -1,22 +1,90 @@
--- The points of an accepted file, filled axis by axis, are the panel's. Assumes nothing.
-use Rattle.std.proofs.Common.{◌≡◌, ℕ, zero, suc, ◌+◌, ◌<◌, ◌≤◌, List, [], ◌∷◌, ◌++◌, length, get_or, take, drop, ℤ, pos, sym, refl, ap, ◌∙◌, arith, Ok, ap₂, is_ok}
+-- The axes of a file one after another, and the points that they fill: those of the panel. Assumes nothing.
+use Rattle.std.proofs.Common.{◌≡◌, ℕ, zero, suc, ◌+◌, ◌-◌, ◌<◌, ◌≤◌, Bool, true, false, cond, not, List, [], ◌∷◌, ◌++◌, length, get_or, take, drop, ℤ, pos, Ok, Err, Result, is_ok, refl, sym, ap, ap₂, ◌∙◌, true≢false, arith}
 use Rattle.std.specs.List.{AllByRecursion}
+use Rattle.std.specs.Result.{IsOk}
 use Rattle.std.proofs.lemmas.List.{get_or-take, length-take-le, take-append-drop}
 use Rattle.std.proofs.lemmas.List.FromFn.{fill_by_all}
+use Rattle.words.specs.Order.{Order}
+use Rattle.refusal.specs.declared.Why.TheVariants.{Code}
+use Rattle.refusal.specs.declared.Refusal.{Refusal}
+use Rattle.refusal.specs.Refusals.{and_then, refuse}
 use Rattle.kinds.specs.Kind.{KindMeaning}
+use Rattle.predict.specs.Predictor.{PredictorMeaning}
+use Rattle.predict.specs.Residues.{values}
+use Rattle.pack.specs.Packing.{ReadingMeaning}
 use Rattle.range.specs.Scale.{Scale, place_in}
 use Rattle.panel.specs.Panel.{Axis, Panel}
-use Rattle.panel.specs.Placed.{place_at, vertex, placed, filled}
-use Rattle.panel.proofs.Accepted.{IsAxis, IsPanel, accepted}
-use Rattle.load.specs.Filling.{moved, fill_on, fill_from, fill_by}
-use Rattle.std.specs.Result.{IsOk}
-use Rattle.words.specs.Order.{Order}
-use Rattle.predict.specs.Predictor.{PredictorMeaning}
-use Rattle.pack.specs.Packing.{ReadingMeaning}
 use Rattle.panel.specs.Layout.{Rest, rest_at}
-use Rattle.panel.specs.Judging.{axes_at, judged}
+use Rattle.panel.specs.Faults.{all_codes}
+use Rattle.panel.specs.Judging.{Opened, opened, coded, with_axis, axes_at, judged}
+use Rattle.panel.specs.Placed.{place_at, vertex, placed, filled}
 use Rattle.panel.proofs.Faults.{then_was}
-use Rattle.load.specs.Pieces.{count_of}
+use Rattle.panel.proofs.Accepted.{IsAxis, IsPanel, accepted}
+use Rattle.load.specs.declared.axis.Axis as read
+use Rattle.load.specs.Pieces.{told_by, left_of, count_of, says_axis}
+use Rattle.load.specs.Filling.{moved, fill_on, fill_from, fill_by}
+
+module _ (o : Order) (m : PredictorMeaning) (q : ReadingMeaning) (n : ℕ) where
+  pub no_axes : (k : ℕ) (r : Rest) → k ≡ 0 → axes_at o m q n k r ≡ Ok ([], r)
+  unfolding axes_at
+  no_axes k r e = ap (λ i. axes_at o m q n i r) e
+
+  -- the axes, by the first of them as it is opened
+  opens : (k j : ℕ) (r : Rest) (u : Result (Opened × Rest) Refusal) → k ≡ suc j → u ≡ opened o q n r →
+      axes_at o m q n k r ≡ and_then (and_then u (coded m)) (λ x. and_then (axes_at o m q n j x.1) (with_axis x.0))
+  unfolding axes_at
+  opens k j r u one h = ap (λ i. axes_at o m q n i r) one ∙ ap (λ v. and_then (and_then v (coded m)) (λ x. and_then (axes_at o m q n j x.1) (with_axis x.0))) (sym h)
+
+  -- an axis that is refused is told in the place of them all
+  first_refused : (k : ℕ) (r : Rest) (e : Refusal) → 0 < k → Err e ≡ opened o q n r → axes_at o m q n k r ≡ Err e
+  first_refused k r e some h = opens k (k - 1) r (Err e) (omega (arith, some)) h
+
+  pub axes_refused : (k : ℕ) (r : Rest) (e : Refusal) → 0 < k → Err e ≡ opened o q n r → Err e ≡ left_of (axes_at o m q n k r)
+  axes_refused k r e some h = sym (ap left_of (first_refused k r e some h))
+
+  -- an axis can be opened where all are accepted
+  pub axis_opens : {O Q : Type 0} (k : ℕ) (r : Rest) (u : Result (read.Axis O Q × Rest) Refusal) → 0 < k → IsOk (axes_at o m q n k r) → told_by says_axis u ≡ opened o q n r → IsOk u
+  axis_opens k r (Ok x) some ok h = refl
+  axis_opens k r (Err e) some ok h = absurd (true≢false (sym ok ∙ ap is_ok (first_refused k r e some h)))
+
+  -- an axis as it is opened, and then others
+  module _ (k j : ℕ) (r : Rest) (x : Opened) (next : Rest) (one : k ≡ suc j) (h : Ok (x, next) ≡ opened o q n r) where
+    abbrev first : Axis
+    first = record { scale = x.scale; codes = values m x.stored }
+
+    -- by the test of its codes
+    tested : (b : Bool) → all_codes x.scale (values m x.stored) ≡ b →
+        axes_at o m q n k r ≡ and_then {X = Axis × Rest} (cond (not b) (refuse Code x.place) (Ok (first, next))) (λ y. and_then (axes_at o m q n j y.1) (with_axis y.0))
+    tested b e = opens k j r (Ok (x, next)) one h
+        ∙ ap (λ c. and_then {X = Axis × Rest} (cond (not c) (refuse Code x.place) (Ok (first, next))) (λ y. and_then (axes_at o m q n j y.1) (with_axis y.0))) e
+
+    by_axis : (u : Result (List Axis × Rest) Refusal) → left_of u ≡ left_of (and_then u (with_axis first))
+    by_axis (Ok y) = refl
+    by_axis (Err e) = refl
+
+    -- what follows the axes: what follows the others, if every code is one of the scale
+    pub walks : (b : Bool) → all_codes x.scale (values m x.stored) ≡ b → cond b (left_of (axes_at o m q n j next)) (refuse Code x.place) ≡ left_of (axes_at o m q n k r)
+    walks true e = by_axis (axes_at o m q n j next) ∙ sym (ap left_of (tested true e))
+    walks false e = sym (ap left_of (tested false e))
+
+    module _ {P : Type 0} (kind : KindMeaning P) (a : ℕ) (ps : List P) where
+      -- one axis is filled, and the others are left
+      pub record Filling : Type 0 where
+        pub sound : all_codes x.scale (values m x.stored) ≡ true
+        pub accepted : IsOk (axes_at o m q n j next)
+        pub filled : fill_by kind (a + 1) (axes_at o m q n j next) (fill_on kind a x.scale (values m x.stored) ps) ≡ fill_by kind a (axes_at o m q n k r) ps
+
+      pub filling : (b : Bool) (u : Result (List Axis × Rest) Refusal) → all_codes x.scale (values m x.stored) ≡ b → axes_at o m q n j next ≡ u → IsOk (axes_at o m q n k r) → Filling
+      unfolding fill_from
+      filling true (Ok y) s e ok = record {
+        sound = s;
+        accepted = ap is_ok e;
+        filled =
+            ap (λ u. fill_by kind (a + 1) u (fill_on kind a x.scale (values m x.stored) ps)) e
+            ∙ sym (ap (λ u. fill_by kind a u ps) (tested true s ∙ ap (λ u. and_then u (with_axis first)) e));
+      }
+      filling true (Err d) s e ok = absurd (true≢false (sym ok ∙ ap is_ok (tested true s ∙ ap (λ u. and_then u (with_axis first)) e)))
+      filling false u s e ok = absurd (true≢false (sym ok ∙ ap is_ok (tested false s)))
 
 module _ {P : Type 0} (k : KindMeaning P) where
   pub length-fill_on : (a : ℕ) (s : Scale) (cs : List ℤ) (ps : List P) → length (fill_on k a s cs ps) ≡ length ps
@@ -98,9 +166,10 @@ module _ (o : Order) (m : PredictorMeaning) (q : ReadingMeaning) (axes room : �
   pub axes_accepted : (r : Rest) → count_of (judged o m q axes room file) ≡ Ok n → r ≡ rest_at file 8 → IsOk (axes_at o m q n axes r)
   axes_accepted r c behind = ap (λ p. is_ok (axes_at o m q n axes p)) behind ∙ ap is_ok (counted c).4
 
-pub placed_all : {P : Type 0} (k : KindMeaning P) (o : Order) (m : PredictorMeaning) (q : ReadingMeaning) (file : List ℕ) (old out : List P) (n : ℕ) →
-    count_of (judged o m q k.axes (length old) file) ≡ Ok n → out ≡ fill_by k 0 (axes_at o m q n k.axes (rest_at file 8)) old →
+-- the points of an accepted file, once its axes are filled
+pub placed_all : {P : Type 0} (k : KindMeaning P) (o : Order) (m : PredictorMeaning) (q : ReadingMeaning) (file : List ℕ) (old out : List P) (n : ℕ) (r : Rest) →
+    count_of (judged o m q k.axes (length old) file) ≡ Ok n → r ≡ rest_at file 8 → out ≡ fill_by k 0 (axes_at o m q n k.axes r) old →
     out ≡ (filled k (judged o m q k.axes (length old) file) old).1
-placed_all k o m q file old out n c fill =
+placed_all k o m q file old out n r c behind fill =
     let x = counted o m q k.axes (length old) file n c in
-    fill ∙ ap (λ r. fill_by k 0 r old) x.4 ∙ points-are k x.0 old x.2 ∙ sym (ap (λ r. (filled k r old).1) x.1)
+    fill ∙ ap (λ s. fill_by k 0 (axes_at o m q n k.axes s) old) behind ∙ ap (λ u. fill_by k 0 u old) x.4 ∙ points-are k x.0 old x.2 ∙ sym (ap (λ u. (filled k u old).1) x.1)
