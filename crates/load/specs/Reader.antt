@@ -97,8 +97,8 @@ module _ (o : Order) (m : PredictorMeaning) (q : ReadingMeaning) (axes room : �
   abbrev pub ReadThrough : List ℕ → Type 0
   ReadThrough file = (at : ℕ) × Stands file read at
 
-  -- What judging answers: a file is refused exactly with its first fault, and accepted exactly where
-  -- it is read through.
+  -- What judging answers: a file is refused exactly with its first fault, and accepted exactly
+  -- where it is read through.
   abbrev pub JudgedByTheFirstFault : {X : Type 0} → List ℕ → Result X Refusal → Type 0
   JudgedByTheFirstFault {X} file r =
       ((e : Refusal) → Exactly (r ≡ Err e) (FirstFault file e))

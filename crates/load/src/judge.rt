@@ -1,4 +1,5 @@
-// Judges a panel file, piece by piece: the first piece with a fault is told, and of its faults the smallest number.
+// Judges a panel file, piece by piece: the first piece with a fault is told, and of its faults the
+// smallest number.
 ghost use Rattle.std.specs.Prelude.{◌≡◌, ◌≤◌, IfOk, length};
 ghost use Rattle.panel.specs.Layout.{header_piece};
 ghost use Rattle.panel.specs.Judging.{head_at, axes_at, end_at, panel_at, nothing_follows, judged};

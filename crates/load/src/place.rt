@@ -17,7 +17,8 @@ use predict::Predictor;
 use std::array;
 use words::ByteOrder;
 
-// The vertices of a file that is accepted. It stands apart, so that its frame is not held while a file is judged.
+// The vertices of a file that is accepted. It stands apart, so that its frame is not held while a
+// file is judged.
 #[inline(never)]
 #[tactic(auto, using(crate::proofs::Axes::axes_accepted, crate::proofs::Axes::placed_all))]
 pub fn place<O: ByteOrder, K: PointKind + Copy, P: Predictor, Q: Unpacking>(
