@@ -72,18 +72,14 @@ take-set-in (suc n) (m ∷ ms) (suc i) y = ap (λ (l : List ℕ). m ∷ l) (take
 
 take-marked : (n : ℕ) (t : Tree) (ms : List ℕ) → take n (marked t ms) ≡ marked t (take n ms)
 take-marked n (whole x) ms = refl
-take-marked n (parted x c f w) ms =
-    take-marked n w (marked f (set ms c 1)) ∙ ap (marked w) (take-marked n f (set ms c 1) ∙ ap (marked f) (take-set-in n ms c 1))
+take-marked n (parted x c f w) ms = rw (take-marked n w (marked f (set ms c 1)), take-marked n f (set ms c 1), take-set-in n ms c 1) refl
 
 take-cleared : (n : ℕ) (ms : List ℕ) → take n (cleared n ms) ≡ cleared n (replicate n 0)
 take-cleared n ms =
     take_at (replicate n 0) (drop n ms) n (length-replicate n 0) ∙ sym (ap (λ (l : List ℕ). replicate n 0 ++ l) (drop_all n (replicate n 0) (omega (arith, length-replicate {A = ℕ} n 0))) ∙ append-nil (replicate n 0))
 
 pub take-marks : (n : ℕ) (t : Tree) (ms : List ℕ) → take n (marked t (ends n ms)) ≡ marked t (ends n (replicate n 0))
-take-marks n t ms =
-    take-marked n t (ends n ms)
-    ∙ ap (marked t) (take-set-in n (set (cleared n ms) 0 1) (n - 1) 1
-    ∙ ap (λ (l : List ℕ). set l (n - 1) 1) (take-set-in n (cleared n ms) 0 1 ∙ ap (λ (l : List ℕ). set l 0 1) (take-cleared n ms)))
+take-marks n t ms = rw (take-marked n t (ends n ms), take-set-in n (set (cleared n ms) 0 1) (n - 1) 1, take-set-in n (cleared n ms) 0 1, take-cleared n ms) refl
 
 -- what holds of all points holds of those that are kept
 pub all-kept : {X : Type 0} (Q : X → Type 0) (ms : List ℕ) (ps : List X) → AllByRecursion Q ps → AllByRecursion Q (kept_of ms ps)
