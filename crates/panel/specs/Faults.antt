@@ -36,8 +36,7 @@ unless (f ∷ fs) good = cond f.found (refuse f.why f.place) (unless fs good)
 abbrev pub piece_faults : {X : Type 0} → Layout X → Rest → List Fault
 piece_faults l r =
     fault Truncated r.at (nat_lt (length r.bytes) l.size)
-    ∷ fault Letter r.at (not (slice_index r.bytes 0 == l.letter))
-    ∷ []
+    ∷ fault Letter r.at (not (slice_index r.bytes 0 == l.letter)) ∷ []
 
 -- what N says, of a file for so many axes, this predictor, this packing, and a point list of so much room
 abbrev pub header_faults : PredictorMeaning → ReadingMeaning → ℕ → ℕ → Header → ℕ → List Fault
@@ -46,8 +45,7 @@ header_faults m q axes room h at =
     ∷ fault PredictorByte at (not (h.predictor == m.number))
     ∷ fault PackingByte at (not (h.packing == q.number))
     ∷ fault VertexCount at (not (is_vertex_count h.count))
-    ∷ fault ShortList at (nat_lt room h.count)
-    ∷ []
+    ∷ fault ShortList at (nat_lt room h.count) ∷ []
 
 -- what Q says
 abbrev pub range_faults : Words → ℕ → List Fault
@@ -56,8 +54,7 @@ range_faults w at =
     let upper : Float = from_bits binary32 w.upper in
     fault Bits at (not (nat_le 1 w.bits && nat_le w.bits MOST_BITS))
     ∷ fault End at (not (good_end lower && good_end upper))
-    ∷ fault Order at (not (int_lt (units_of lower) (units_of upper)))
-    ∷ []
+    ∷ fault Order at (not (int_lt (units_of lower) (units_of upper))) ∷ []
 
 -- fewer bytes are left than a body of so many
 abbrev pub cut_short : ℕ → Rest → List Fault
@@ -70,7 +67,8 @@ refused_for why (Err e) = number_of e == number_of why
 
 -- a body, by what the packing reads in it
 abbrev pub body_faults : Result (List ℤ) Why → ℕ → List Fault
-body_faults r at = fault BodyLength at (refused_for BodyLength r) ∷ fault SpareBits at (refused_for SpareBits r) ∷ []
+body_faults r at =
+    fault BodyLength at (refused_for BodyLength r) ∷ fault SpareBits at (refused_for SpareBits r) ∷ []
 
 -- every code is one of the scale's
 unfoldable pub all_codes : Scale → List ℤ → Bool

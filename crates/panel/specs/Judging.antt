@@ -37,7 +37,9 @@ nothing_follows r = unless (trailing_faults r) (Ok tt)
 
 -- Q: the scale
 abbrev pub scale_at : Order → Rest → Result (Scale × Rest) Refusal
-scale_at o r = and_then (taken (range_piece o) r) (λ w. unless (range_faults w.0 r.at) (Ok (scale_of w.0, w.1)))
+scale_at o r =
+    and_then (taken (range_piece o) r) (λ w.
+    unless (range_faults w.0 r.at) (Ok (scale_of w.0, w.1)))
 
 -- a body of so many bytes, in which n entries are due: what the packing reads in it
 abbrev pub body_at : Order → ReadingMeaning → ℕ → ℕ → Rest → Result (List ℤ × Rest) Refusal
@@ -57,7 +59,8 @@ opened o q n r =
 abbrev pub coded : PredictorMeaning → Opened × Rest → Result (Axis × Rest) Refusal
 coded m x =
     let codes : List ℤ = values m x.0.stored in
-    unless (code_faults x.0.scale codes x.0.place) (Ok (record { scale = x.0.scale; codes = codes }, x.1))
+    unless (code_faults x.0.scale codes x.0.place)
+    (Ok (record { scale = x.0.scale; codes = codes }, x.1))
 
 -- one axis before the others
 abbrev pub with_axis : Axis → List Axis × Rest → Result (List Axis × Rest) Refusal
@@ -67,7 +70,8 @@ module _ (o : Order) (m : PredictorMeaning) (q : ReadingMeaning) where
   -- N: the vertex count, of a file for so many axes and a point list of so much room
   abbrev pub head_at : ℕ → ℕ → Rest → Result (ℕ × Rest) Refusal
   head_at axes room r =
-      and_then (taken (header_piece o) r) (λ h. unless (header_faults m q axes room h.0 r.at) (Ok (h.0.count, h.1)))
+      and_then (taken (header_piece o) r) (λ h.
+      unless (header_faults m q axes room h.0 r.at) (Ok (h.0.count, h.1)))
 
   -- an axis
   abbrev pub axis_at : ℕ → Rest → Result (Axis × Rest) Refusal

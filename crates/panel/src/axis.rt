@@ -19,10 +19,12 @@ pub(crate) fn write_axis<O: ByteOrder, Q: Packing>(
     at: usize,
 ) -> usize
     requires counted { IsVertexCount (length entries.now) }
-    requires space { at + length (stored_axis O.order Q.means range.now entries.now) ≤ length file.old }
+    requires space { let axis = stored_axis O.order Q.means range.now entries.now in
+        at + length axis ≤ length file.old }
     ensures bytes { let axis = stored_axis O.order Q.means range.now entries.now in
         file.new ≡ overwritten file.old at axis }
-    ensures next { result ≡ at + length (stored_axis O.order Q.means range.now entries.now) }
+    ensures next { let axis = stored_axis O.order Q.means range.now entries.now in
+        result ≡ at + length axis }
 {
     let size = Q::body_length(entries);
     put(file, at, &range_piece::<O>(range));
