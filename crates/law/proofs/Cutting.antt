@@ -4,8 +4,7 @@ use Rattle.kinds.specs.Kind.{KindMeaning}
 use Rattle.kinds.specs.Vertex.{Vertex, at, told, all_close_by}
 use Rattle.range.specs.Scale.{Scale, IsRange, quanta, width}
 use Rattle.seam.specs.Ones.{ones}
-use Rattle.panel.specs.Panel.{Panel, panel_of}
-use Rattle.panel.specs.Placed.{place_at, vertex, placed}
+use Rattle.panel.specs.Panel.{Panel, panel_of, place_at, vertex, placed}
 use Rattle.std.specs.List.{AllByRecursion}
 use Rattle.std.proofs.ByRecursion.{All-map, All-get_or}
 use Rattle.law.specs.Program.{Chain, steps, through as through-all}

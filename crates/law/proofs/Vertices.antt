@@ -6,8 +6,7 @@ use Rattle.std.proofs.lemmas.List.FromFn.{get_or-map-range_with_len, length-map-
 use Rattle.std.proofs.lemmas.Bool.{cases_lt}
 use Rattle.kinds.specs.Kind.{KindMeaning, triple}
 use Rattle.kinds.specs.Vertex.{at, told}
-use Rattle.panel.specs.Panel.{Axis, Panel}
-use Rattle.panel.specs.Placed.{place_at, vertex, placed}
+use Rattle.panel.specs.Panel.{Axis, Panel, place_at, vertex, placed}
 use Rattle.law.specs.Program.{steps}
 use Rattle.law.specs.Law.{step_on}
 

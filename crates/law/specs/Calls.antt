@@ -9,10 +9,9 @@ use Rattle.predict.specs.Predictor.{PredictorMeaning}
 use Rattle.pack.specs.Packing.{ReadingMeaning}
 use Rattle.words.specs.Order.{low_first}
 use Rattle.words.specs.Bytes.{overwritten}
-use Rattle.panel.specs.Panel.{Panel}
+use Rattle.panel.specs.Panel.{Panel, placed}
 use Rattle.refusal.specs.Refusals.{refuse, and_then}
 use Rattle.panel.specs.Judging.{judged}
-use Rattle.panel.specs.Placed.{placed}
 use Rattle.seam.specs.Ones.{ones}
 use Rattle.seam.specs.Split.{marked, waits, kept}
 use Rattle.seam.specs.Seam.{ends, tree_of, why_not, short_list}

@@ -6,8 +6,8 @@ use Rattle.std.proofs.lemmas.List.FromFn.{length-map-range_with_len, get_or-map-
 use Rattle.std.proofs.lemmas.Bool.{cases_lt}
 use Rattle.kinds.specs.Kind.{KindMeaning}
 use Rattle.range.specs.Scale.{Scale, place_in}
-use Rattle.panel.specs.Panel.{Axis, Panel}
-use Rattle.panel.specs.Placed.{place_at, vertex, placed, filled}
+use Rattle.panel.specs.Panel.{Axis, Panel, place_at, vertex, placed}
+use Rattle.panel.specs.Stored.{filled}
 use Rattle.panel.proofs.Accepted.{IsAxis, IsPanel, accepted}
 use Rattle.load.specs.Filling.{moved, fill_on, fill_from, fill_by}
 use Rattle.std.specs.Result.{IsOk}

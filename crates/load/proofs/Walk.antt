@@ -11,8 +11,7 @@ use Rattle.predict.specs.Residues.{values}
 use Rattle.pack.specs.Packing.{ReadingMeaning}
 use Rattle.panel.specs.Layout.{Rest}
 use Rattle.panel.specs.Panel.{Axis}
-use Rattle.panel.specs.Faults.{all_codes}
-use Rattle.panel.specs.Judging.{Opened, opened, coded, with_axis, axis_at, axes_at}
+use Rattle.panel.specs.Judging.{all_codes, Opened, opened, coded, with_axis, axis_at, axes_at}
 use Rattle.load.specs.declared.axis.Axis as read
 use Rattle.load.specs.Counted.{left_of, opened_by}
 use Rattle.load.specs.Filling.{fill_on, fill_from, fill_by}

@@ -2,13 +2,13 @@
 pub use Rattle.kinds.specs.Count.{IsVertexCount, is_vertex_count}
 pub use Rattle.kinds.specs.Kind.{KindMeaning}
 pub use Rattle.pack.specs.Packing.{PackingMeaning, ReadingMeaning}
-pub use Rattle.panel.specs.Faults.{piece_faults, header_faults, range_faults, cut_short, code_faults, Fault, unless, trailing_faults}
-unfoldable pub use Rattle.panel.specs.Faults.{all_codes}
+pub use Rattle.panel.specs.Judging.{piece_faults, header_faults, range_faults, cut_short, code_faults, Fault, unless, trailing_faults}
+unfoldable pub use Rattle.panel.specs.Judging.{all_codes}
 pub use Rattle.panel.specs.Judging.{taken, bytes_taken, scale_at, body_at, Opened, coded, with_axis, head_at, axis_at, end_at, nothing_follows}
 unfoldable pub use Rattle.panel.specs.Judging.{opened, axes_at, panel_at, judged}
 pub use Rattle.panel.specs.Layout.{piece_bytes, range_piece, length_piece, header_piece, rest_bytes, end_piece, stored_axis, Rest, Layout, Header, rest_at, past}
 unfoldable pub use Rattle.panel.specs.Layout.{file_of, axis_bytes}
-pub use Rattle.panel.specs.Panel.{Axis, axis_on, panel_of, all_inside, panel_on, Panel}
+pub use Rattle.panel.specs.Panel.{Axis, panel_of, all_inside, panel_on, Panel}
 unfoldable pub use Rattle.panel.specs.Panel.{codes_on, axes_from, inside_on, inside_from}
 pub use Rattle.predict.proofs.Undone.{start-words, values-back, residues-words, length-residues, length-values}
 pub use Rattle.predict.specs.Predictor.{PredictorMeaning}

@@ -4,7 +4,7 @@ ghost use Rattle.predict.specs.Residues.{residues};
 ghost use Rattle.kinds.specs.Count.{IsVertexCount};
 ghost use Rattle.words.specs.Bytes.{overwritten};
 ghost use Rattle.panel.specs.Panel.{codes_on, inside_from, inside_on, panel_on};
-ghost use Rattle.panel.specs.Faults.{fault, unless};
+ghost use Rattle.panel.specs.Judging.{fault, unless};
 ghost use Rattle.refusal.specs.declared.Why.TheVariants.{NoSpace};
 ghost use Rattle.panel.specs.Stored.{filed};
 ghost use Rattle.panel.specs.Layout.{file_of};

@@ -1,5 +1,5 @@
 use Rattle.std.proofs.Common.{sym, ap, ◌∙◌, rules}
-use Rattle.panel.specs.Faults.{all_codes}
+use Rattle.panel.specs.Judging.{all_codes}
 use Rattle.load.proofs.Codes.{codes_go, codes_past, codes_astray}
 use Rattle.load.proofs.judge.axis.Goals as goal
 

@@ -1,5 +1,5 @@
 use Rattle.std.proofs.Common.{◌≡◌}
-use Rattle.panel.specs.Faults.{all_codes}
+use Rattle.panel.specs.Judging.{all_codes}
 use Rattle.load.proofs.judge.axis.Given as goal
 
 -- the codes that are left tell of the whole axis
