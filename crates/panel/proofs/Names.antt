@@ -1,4 +1,5 @@
 -- The names that several of these proofs cite, passed on from one place.
+pub use Rattle.std.proofs.Common.{◌≡◌, ℕ, ◌+◌, ◌≤◌, List, ◌++◌, length, take, drop, refl, sym, ap, ◌∙◌, ap₂, append-nil, arith, length-append, length-take, append_assoc, ◌*◌, w32, ◌<◌, true, get_or, ℤ, Bool, [], ◌∷◌, set, zero, suc, pos, ◌^◌, Ok, not, false, subst, Result, Err, leb, ⊎_elim, lit≤, true≢false, is_ok}
 pub use Rattle.kinds.specs.Count.{IsVertexCount, is_vertex_count}
 pub use Rattle.kinds.specs.Kind.{KindMeaning}
 pub use Rattle.pack.specs.Packing.{PackingMeaning, ReadingMeaning}

@@ -71,7 +71,7 @@ impl<'a, K: PointKind> Design<'a, K> {
     }
 
     // How many bytes the file takes.
-    #[tactic(auto, using(crate::proofs::Axes::inside_each, crate::proofs::Axes::length_file, crate::proofs::Axes::length_next, crate::proofs::Axes::length_end))]
+    #[tactic(auto, using(crate::proofs::Axes::inside_each, crate::proofs::Axes::length_file, crate::proofs::Axes::length_next, crate::proofs::Axes::rest_end))]
     fn file_length<O: ByteOrder, P: Predictor, Q: Packing>(&self, work: &mut [i32]) -> usize
         requires { length work.old ≡ length self.now.points.now }
         ensures { let panel = panel_on K.kind self.now.ranges.now self.now.points.now in

@@ -1,7 +1,6 @@
-use Rattle.std.proofs.Common.{ap, ◌∙◌, arith, w32}
+use Rattle.panel.proofs.Names.{ap, ◌∙◌, arith, w32, inside, code_in}
 use Rattle.std.proofs.lemmas.Int.{to_z-of_z}
 use borrow.Author.Differences.{ints}
-use Rattle.panel.proofs.Names.{inside, code_in}
 use Rattle.panel.proofs.Axes.{inside_at, fill_step, fill_end}
 use Rattle.panel.proofs.design.Design.fill.Goals as goal
 
