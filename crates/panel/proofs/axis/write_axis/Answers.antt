@@ -5,11 +5,8 @@ use Rattle.panel.proofs.axis.write_axis.Goals as goal
 
 pub returns-clause-bytes : goal.returns-clause-bytes
 returns-clause-bytes g c =
-    let o = g.O.ByteOrder.order in
-    let q = g.Q.Packing.means in
-    let list = c.args.entries.now in
-    let file = c.args.file.now in
-    let at = c.args.at in
+    let o = g.O.ByteOrder.order in let q = g.Q.Packing.means in
+    let list = c.args.entries.now in let file = c.args.file.now in let at = c.args.at in
     let body : ℕ = at + 10 + 5 in
     let R : List ℕ = piece_bytes (range_piece o) (in_words c.args.range.now) in
     let V : List ℕ = piece_bytes (length_piece o) (length (q.writes o list)) in
