@@ -47,7 +47,10 @@ module _ (o : Order) where
     letter = 0x4E;
     size = 8;
     says = λ bs. record {
-      axes = slice_index bs 1; predictor = slice_index bs 2; packing = slice_index bs 3; count = word_at o bs 4;
+      axes = slice_index bs 1;
+      predictor = slice_index bs 2;
+      packing = slice_index bs 3;
+      count = word_at o bs 4;
     };
     operands = λ h. h.axes ∷ h.predictor ∷ h.packing ∷ o.writes h.count;
   }
