@@ -15,7 +15,7 @@ use Rattle.law.specs.Calls.{Load, meaning_of, kept_of, Cut}
 use Rattle.law.specs.Law.{Stored, Steps, IsChain, Follows, Meant, WellDrawn, step_on, stroke_from, stroke_to, m_of_stroke, scale_on, marks_of, must_keep}
 use Rattle.kinds.specs.Vertex.{Vertex, at, told, all_close_by}
 use Rattle.seam.specs.Ones.{ones}
-use Rattle.panel.specs.Placed.{place_at, vertex, placed}
+use Rattle.panel.specs.Panel.{place_at, vertex, placed}
 use Rattle.std.specs.List.{AllByRecursion}
 use Rattle.std.proofs.ByRecursion.{All-map, All-get_or}
 use Rattle.law.specs.Program.{Chain, steps, through as through-all}

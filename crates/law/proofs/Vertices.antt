@@ -7,7 +7,7 @@ use Rattle.std.proofs.lemmas.Bool.{cases_lt, and_parts, cond_both}
 use Rattle.kinds.specs.Kind.{KindMeaning, triple}
 use Rattle.kinds.specs.Vertex.{at, told, OnBench, close_by, all_close_by}
 use Rattle.panel.specs.Panel.{Axis, Panel}
-use Rattle.panel.specs.Placed.{place_at, vertex, placed}
+use Rattle.panel.specs.Panel.{place_at, vertex, placed}
 use Rattle.law.specs.Program.{steps}
 use Rattle.law.specs.Law.{step_on, Steps}
 use Rattle.seam.specs.Seam.{cleared, ends}

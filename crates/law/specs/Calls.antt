@@ -12,7 +12,6 @@ use Rattle.words.specs.Order.{low_first}
 use Rattle.words.specs.Bytes.{overwritten}
 use Rattle.panel.specs.Panel.{Panel}
 use Rattle.panel.specs.Judging.{judged}
-use Rattle.panel.specs.Placed.{placed}
 use Rattle.seam.specs.Ones.{ones}
 use Rattle.seam.specs.Split.{marked, waits, kept}
 use Rattle.seam.specs.Seam.{ends, tree_of, why_not, short_list}

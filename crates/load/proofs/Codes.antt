@@ -7,7 +7,7 @@ use Rattle.predict.specs.declared.Before.{Before}
 use Rattle.predict.specs.Predictor.{PredictorMeaning}
 use Rattle.predict.specs.Residues.{after, restored, values_from}
 use Rattle.range.specs.Scale.{Scale, is_code, place_in}
-use Rattle.panel.specs.Faults.{all_codes}
+use Rattle.panel.specs.Judging.{all_codes}
 use Rattle.load.specs.Filling.{moved, fill_on}
 
 -- the codes that are left

@@ -9,7 +9,7 @@ use Rattle.predict.specs.Predictor.{PredictorMeaning}
 use Rattle.pack.specs.Packing.{ReadingMeaning}
 use Rattle.range.specs.Scale.{Scale, scale_of}
 use Rattle.panel.specs.Layout.{Rest, rest_at, header_piece, range_piece, length_piece, end_piece}
-use Rattle.panel.specs.Faults.{Fault, piece_faults, header_faults, range_faults, cut_short, body_faults, stray_codes, trailing_faults}
+use Rattle.panel.specs.Judging.{Fault, piece_faults, header_faults, range_faults, cut_short, body_faults, stray_codes, trailing_faults}
 
 -- the piece that is due: N; Q, V or a body with so many axes after it, in a panel of n vertices; E;
 -- nothing more; or the whole file is read

@@ -1,6 +1,6 @@
 // An axis of a panel file: its range and its body.
 ghost use Rattle.std.specs.Prelude.{◌≡◌, IfOk, Ok, length};
-ghost use Rattle.panel.specs.Faults.{unless, range_faults};
+ghost use Rattle.panel.specs.Judging.{unless, range_faults, scale_at, opened};
 ghost use Rattle.range.specs.Scale.{scale_of};
 ghost use Rattle.panel.specs.Judging.{scale_at, opened};
 ghost use Rattle.load.specs.Pieces.{told_by, says_axis};

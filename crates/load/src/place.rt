@@ -1,10 +1,10 @@
 // Places the vertices of a file that is judged, axis by axis.
 ghost use Rattle.std.specs.Prelude.{◌≡◌, ◌≤◌, true, IsOk, length, Ok};
 ghost use Rattle.predict.specs.Residues.{values};
-ghost use Rattle.panel.specs.Faults.{all_codes};
+ghost use Rattle.panel.specs.Judging.{all_codes, axes_at, judged};
 ghost use Rattle.panel.specs.Layout.{header_piece};
 ghost use Rattle.panel.specs.Judging.{axes_at, judged};
-ghost use Rattle.panel.specs.Placed.{filled};
+ghost use Rattle.panel.specs.Stored.{filled};
 ghost use Rattle.load.specs.Pieces.{count_of};
 ghost use Rattle.load.specs.Filling.{moved, fill_on, fill_by};
 

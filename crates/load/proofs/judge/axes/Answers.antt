@@ -1,5 +1,5 @@
 use Rattle.std.proofs.Common.{◌+◌, ◌-◌, Err, sym, ap, ◌∙◌, arith, rules}
-use Rattle.panel.specs.Faults.{all_codes}
+use Rattle.panel.specs.Judging.{all_codes}
 use Rattle.load.specs.Pieces.{says_axis}
 use Rattle.load.proofs.Codes.{codes_next}
 use Rattle.load.proofs.Axes.{walks}

@@ -1,7 +1,7 @@
 use Rattle.std.proofs.Common.{◌≡◌, ◌+◌, ◌≤◌, true, ◌++◌, length, take, drop}
 use Rattle.std.specs.Iterator.Adapters.{enumerate_source, enumerate_count}
 use Rattle.predict.specs.Residues.{values}
-use Rattle.panel.specs.Faults.{all_codes}
+use Rattle.panel.specs.Judging.{all_codes}
 use Rattle.load.specs.Filling.{fill_on}
 use Rattle.load.proofs.place.place_axis.Given as goal
 
