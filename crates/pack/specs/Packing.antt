@@ -8,10 +8,8 @@ use Rattle.refusal.specs.declared.Why.TheVariants.{BodyLength, SpareBits}
 use Rattle.words.specs.Numbers.{Word}
 use Rattle.words.specs.Order.{Order, spelled}
 use Rattle.words.proofs.Spelling.{length_spelled}
-use Rattle.bodies.specs.Plain.{plain_reads}
-use Rattle.bodies.specs.Fields.{fielded_reads, fielded_writes, fielded_size}
-use Rattle.bodies.proofs.Plain.{plain_counts, plain_words, plain_refusals, plain_short, plain_back}
-use Rattle.bodies.proofs.Fielded.{fielded_counts, fielded_words, fielded_refusals, fielded_sized, fielded_short, fielded_back}
+use Rattle.bodies.specs.Bodies.{plain_reads, fielded_reads, fielded_writes, fielded_size}
+use Rattle.bodies.proofs.Bodies.{plain_counts, plain_words, plain_refusals, plain_short, plain_back, fielded_counts, fielded_words, fielded_refusals, fielded_sized, fielded_short, fielded_back}
 
 -- A packing as a reader knows it: its number, and what a body means under a byte order where n entries are due. A body that is
 -- accepted means n 32-bit numbers, and one that is refused is so for its length or for its spare bits.

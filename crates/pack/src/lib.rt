@@ -8,7 +8,7 @@ ghost use Rattle.kinds.specs.Count.{IsVertexCount};
 ghost use Rattle.refusal.specs.declared.Why.TheVariants.{BodyLength};
 ghost use Rattle.words.specs.Order.{bytes_of};
 ghost use Rattle.pack.specs.Packing.{ReadingMeaning, PackingMeaning, plain, fielded};
-ghost use Rattle.bodies.specs.Fields.{least, gap, width_of, fields_size, spare, laid, fielded_size};
+ghost use Rattle.bodies.specs.Bodies.{least, gap, width_of, fields_size, spare, laid, fielded_size};
 ghost use Rattle.pack.specs.Laws.{HighFirst, OnlyPacked, Figures};
 
 use kinds::{MOST_VERTICES, VertexCount};
@@ -363,7 +363,7 @@ impl<'a> Framed<'a> {
 }
 
 // Where a field's bits lie, which bodies are accepted, and figures reckoned by hand.
-#[tactic(auto, using(crate::proofs::Reading::high_first, crate::proofs::Only::only_packed))]
+#[tactic(auto, using(crate::proofs::Reading::high_first, crate::proofs::Reading::only_packed))]
 pub fn fields_high_first()
     ensures bits { HighFirst }
     ensures bodies { OnlyPacked }
