@@ -187,7 +187,7 @@ fn spare_bits(bytes: &[u8], k: usize) -> u8
 }
 
 // The number that at most eight bytes write, the highest first.
-#[tactic(auto, using(crate::proofs::Bits::padded_read))]
+#[tactic(auto, using(crate::proofs::Reading::padded_read))]
 fn number_of(bytes: &[u8]) -> u64
     requires { length bytes.now ≤ 8 }
     ensures { result ≡ number_from_digits 256 bytes.now }
@@ -223,6 +223,7 @@ impl TryFrom<u8> for Width {
 
 impl Width {
     // As many bits as a number takes.
+    #[tactic(auto, using(std::proofs::lemmas::Nat::pow_below))]
     fn of(number: u32) -> Width
         ensures holds { number < 2 ^ result.bits }
         ensures smallest { (w : ℕ) → number < 2 ^ w → result.bits ≤ w }
