@@ -15,7 +15,7 @@ use Rattle.std.proofs.lemmas.Int.{ints, fold-int_min_reached, int_wrap_fits, SFi
 use Rattle.std.proofs.lemmas.Int.Digits.{number_digits_of, number_lt, all_below_base_digits_of, length-digits_of-le}
 use Rattle.refusal.specs.declared.Why.{Why}
 use Rattle.refusal.specs.declared.Why.TheVariants.{BodyLength, SpareBits}
-use Rattle.words.specs.Numbers.{Word, ◌⊞◌}
+use Rattle.words.specs.Numbers.{Word}
 use Rattle.words.specs.Order.{Order, bytes_of, number_of, spelled}
 use Rattle.words.proofs.Spelling.{number_back, length_numbers, all_numbers, length_spelled, numbers_back}
 use Rattle.bodies.proofs.Digits.{pow_pow, length_digits, digits_number, number_digits}
