@@ -3,7 +3,7 @@ use Rattle.std.proofs.Common.{◌≡◌, ℕ, suc, ◌+◌, ◌-◌, ◌*◌, �
 use Rattle.kinds.specs.Kind.{KindMeaning}
 use Rattle.kinds.specs.Vertex.{Vertex, at, told, all_close_by}
 use Rattle.range.specs.Scale.{Scale, IsRange, quanta, width}
-use Rattle.seam.specs.Ones.{ones}
+use Rattle.seam.specs.Seam.{ones}
 use Rattle.panel.specs.Panel.{Panel, panel_of}
 use Rattle.panel.specs.Placed.{place_at, vertex, placed}
 use Rattle.std.specs.List.{AllByRecursion}

@@ -12,9 +12,8 @@ use Rattle.panel.specs.Written.{axis_bytes, file_of}
 use Rattle.panel.specs.Faults.{all_codes}
 use Rattle.panel.specs.Judging.{opened, axes_at, panel_at, judged}
 use Rattle.panel.specs.Placed.{place_at, placed}
-use Rattle.seam.specs.Split.{grow, tree}
 use Rattle.seam.specs.Weight.{from_to, m_of, weights_from, weight, limit}
-use Rattle.seam.specs.Seam.{pick, tree_of}
+use Rattle.seam.specs.Seam.{pick, tree_of, grow, tree}
 use Rattle.law.specs.Program.{chain_bytes}
 use Rattle.law.specs.Calls.{drawn}
 use Rattle.law.specs.Figures.{Run}

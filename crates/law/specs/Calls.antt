@@ -13,9 +13,7 @@ use Rattle.panel.specs.Panel.{Panel}
 use Rattle.refusal.specs.Refusals.{refuse, and_then}
 use Rattle.panel.specs.Judging.{judged}
 use Rattle.panel.specs.Placed.{placed}
-use Rattle.seam.specs.Ones.{ones}
-use Rattle.seam.specs.Split.{marked, waits, kept}
-use Rattle.seam.specs.Seam.{ends, tree_of, why_not, short_list}
+use Rattle.seam.specs.Seam.{ends, tree_of, why_not, short_list, ones, marked, waits, kept}
 use Rattle.law.specs.declared.Stage.{Stage}
 use Rattle.law.specs.declared.Stage.TheVariants.{Empty, Loaded, Split, Closed}
 use Rattle.law.specs.declared.Event.{Event}

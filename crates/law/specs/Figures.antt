@@ -1,6 +1,6 @@
 -- Figures reckoned by hand: a whole run on one bench, and those of the other crates.
 use Rattle.std.specs.Prelude.{◌≡◌, ℕ, List, [], ◌∷◌, take, replicate, pos, Some, None}
-use Rattle.kinds.specs.Models.{flat}
+use Rattle.kinds.specs.Kind.{flat}
 use Rattle.kinds.specs.declared.Flat.{Flat}
 use Rattle.range.specs.Scale.{Scale}
 use Rattle.range.specs.Figures as range
@@ -8,7 +8,7 @@ use Rattle.predict.specs.Predictor.{lag1}
 use Rattle.predict.specs.Laws as predict
 use Rattle.pack.specs.Packing.{plain, fielded}
 use Rattle.pack.specs.Laws as pack
-use Rattle.seam.specs.Figures as seam
+use Rattle.seam.specs.Laws as seam
 use Rattle.law.specs.Calls.{Call, load, load_of, split, cut, close, State, lists_of, new, run, accepted}
 use Rattle.law.specs.Law.{Stored}
 

@@ -13,9 +13,8 @@ use Rattle.words.specs.Order.{Order}
 use Rattle.refusal.specs.declared.Why.{Why}
 use Rattle.refusal.specs.declared.Why.TheVariants.{BodyLength, SpareBits}
 use Rattle.refusal.specs.declared.Refusal.{Refusal}
-use Rattle.refusal.specs.Numbers.{number_of}
-use Rattle.refusal.specs.Refusals.{and_then, refusal_at}
-use Rattle.kinds.specs.Count.{IsVertexCount}
+use Rattle.refusal.specs.Refusals.{and_then, refusal_at, number_of}
+use Rattle.kinds.specs.Vertex.{IsVertexCount}
 use Rattle.predict.specs.Predictor.{PredictorMeaning}
 use Rattle.predict.specs.Residues.{start, values}
 use Rattle.predict.proofs.Undone.{length-values}

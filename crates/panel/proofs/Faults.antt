@@ -2,7 +2,7 @@
 use Rattle.std.proofs.Common.{◌≡◌, ℕ, false, not, List, [], ◌∷◌, Ok, Err, Result, sym, refl, ap, ◌∙◌, true≢false, is_ok}
 use Rattle.std.specs.List.{AllByRecursion}
 use Rattle.std.proofs.lemmas.Bool.{cond-false, cond_both, and_parts, not-false, leb-true}
-use Rattle.kinds.specs.Count.{IsVertexCount, is_vertex_count}
+use Rattle.kinds.specs.Vertex.{IsVertexCount, is_vertex_count}
 use Rattle.refusal.specs.declared.Refusal.{Refusal}
 use Rattle.refusal.specs.Refusals.{and_then}
 use Rattle.panel.specs.Faults.{Fault, unless}

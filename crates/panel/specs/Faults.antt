@@ -2,12 +2,11 @@
 use Rattle.std.specs.Prelude.{ℕ, Bool, false, not, ◌&&◌, cond, List, [], ◌∷◌, length, ℤ, Ok, Err, Result, ◌==◌, from_bits, int_lt, nat_le, nat_lt, slice_index, Float}
 use Rattle.std.specs.Float.{binary32}
 use Rattle.std.specs.List.{list_all}
-use Rattle.refusal.specs.Numbers.{number_of}
 use Rattle.refusal.specs.declared.Why.{Why}
 use Rattle.refusal.specs.declared.Why.TheVariants.{Truncated, Letter, AxisCount, PredictorByte, PackingByte, VertexCount, ShortList, Bits, End, Order, BodyLength, SpareBits, Code, Trailing}
 use Rattle.refusal.specs.declared.Refusal.{Refusal}
-use Rattle.refusal.specs.Refusals.{refuse}
-use Rattle.kinds.specs.Count.{is_vertex_count}
+use Rattle.refusal.specs.Refusals.{refuse, number_of}
+use Rattle.kinds.specs.Vertex.{is_vertex_count}
 use Rattle.predict.specs.Predictor.{PredictorMeaning}
 use Rattle.predict.specs.Residues.{values}
 use Rattle.pack.specs.Packing.{ReadingMeaning}

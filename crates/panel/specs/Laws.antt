@@ -4,7 +4,7 @@ use Rattle.std.specs.List.{AllByRecursion}
 use Rattle.words.specs.Order.{Order, low_first}
 use Rattle.kinds.specs.Kind.{KindMeaning}
 use Rattle.predict.specs.Predictor.{PredictorMeaning}
-use Rattle.kinds.specs.Count.{IsVertexCount}
+use Rattle.kinds.specs.Vertex.{IsVertexCount}
 use Rattle.pack.specs.Packing.{PackingMeaning}
 use Rattle.range.specs.Scale.{Scale, IsRange}
 use Rattle.panel.specs.Panel.{panel_of, all_inside}

@@ -181,6 +181,8 @@ sums_small s b t =
       λ c h. let x = on_table s c t h in omega (arith, ints, x.0, x.1),
     )
 
+pub ruleset laws = (nearest_means, code_in_range, half_a_quantum, half_a_step, places_near, places_bounded, codes_rise, places_rise, sums_small)
+
 -- ---- what the machine works out
 
 pub code_as : (s : Scale) (v : ℤ) (f m d r : ℕ) → inside s v ≡ true → 0 < d → v -ℤ lowest s ≡ pos f → d ≡ width s → m ≡ quanta s

@@ -214,3 +214,7 @@ words_stay w h g =
     (λ (e : w ≡ 2 ^ 31). rw e refl)
     (λ (n : w ≡ 2 ^ 31 → ⊥). rw (plain_other (of_bits binary32 w) (of_bits-fits binary32 w) (λ e. n (sym stays ∙ ap (to_bits binary32) e)), stays) (other w n))
     (cases_eq w (2 ^ 31))
+
+pub ruleset laws = (ends_mean, plain_units, words_stay)
+
+pub ruleset plains = (plain_good, plain_units, plain_plain)

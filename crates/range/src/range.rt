@@ -35,7 +35,7 @@ impl Model for Range {
 
 impl Range {
     // The bits are judged first, then the ends, then their order.
-    #[tactic(auto, using(crate::proofs::Units::plain_good, crate::proofs::Units::plain_units, crate::proofs::Units::plain_plain))]
+    #[tactic(auto, using(crate::proofs::Units::plains))]
     pub fn new(bits: u8, lower: f32, upper: f32) -> Result<Range, Why>
         ensures value { result ≡ range_of bits lower upper }
         ensures refused { refusal bits lower upper ≡ result_err result }

@@ -3,7 +3,7 @@ use Rattle.std.proofs.Common.{◌≡◌, ℕ, ◌+◌, ◌-◌, ◌*◌, ◌<◌
 use Rattle.std.specs.List.{All, fold}
 use Rattle.std.proofs.lemmas.List.{length-append, length-map, length-reverse, map-append, reverse-append}
 use Rattle.std.proofs.lemmas.List.Elements.{All-push, All-pop}
-use Rattle.seam.specs.Split.{chord, parts_of, Tree, whole, parted, tree, kept, waits, marked}
+use Rattle.seam.specs.Seam.{chord, parts_of, Tree, whole, parted, tree, kept, waits, marked}
 use Rattle.seam.specs.declared.chord.Chord.{Chord}
 use Rattle.seam.proofs.Grow.{Inner, parts-are, tree_is, tree-flat, waits-few, kept-fewer}
 
@@ -19,10 +19,6 @@ kept_all (t ∷ ts) = kept t + kept_all ts
 abbrev pub waits_all : List Tree → ℕ
 waits_all [] = 0
 waits_all (t ∷ ts) = max (length ts + waits t) (waits_all ts)
-
--- their marks
-abbrev pub marked_all : List Tree → List ℕ → List ℕ
-marked_all ts ms = fold (λ ns t. marked t ns) ms ts
 
 -- an end of the turns: each vertex that is kept takes two of them, each chord that waits one
 abbrev pub turns : ℕ → List Chord → ℕ
@@ -40,7 +36,7 @@ Proper last x = (x.from < x.to) × (x.to ≤ last)
 
 -- what is done, and what the chord in hand and those that wait still owe
 pub record Going (pick : Chord → Option ℕ) (last : ℕ) (before : List ℕ) (ws : List Chord) (most count : ℕ) (x : Chord) (ms : List ℕ) : Type 0 where
-  pub marks : marked_all (tree pick x ∷ owed pick ws) ms ≡ marked (tree pick (chord 0 last)) before
+  pub marks : fold (λ ns t. marked t ns) ms (tree pick x ∷ owed pick ws) ≡ marked (tree pick (chord 0 last)) before
   pub counts : count + kept_all (tree pick x ∷ owed pick ws) ≡ kept (tree pick (chord 0 last))
   pub waiting : max most (waits_all (tree pick x ∷ owed pick ws)) ≡ waits (tree pick (chord 0 last))
   pub deep : length ws ≤ most
