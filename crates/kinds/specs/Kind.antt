@@ -1,4 +1,4 @@
--- Point kinds: their axes, how a point is made and what it tells on each axis; the flat and the mould kind.
+-- Point kinds: their axes, how a point is made and what it tells; the flat and the mould kind.
 use Rattle.std.specs.Prelude.{◌≡◌, refl, ℕ, ◌<◌, ◌≤◌, [], ◌∷◌, get_or, ℤ, pos}
 use Rattle.std.proofs.Common.{lit≤}
 use Rattle.std.proofs.lemmas.List.{get_or-take, get_or_past}
@@ -9,7 +9,7 @@ use Rattle.kinds.specs.declared.Mould.{Mould}
 abbrev pub triple : ℤ → ℤ → ℤ → ℕ → ℤ
 triple x y z axis = get_or (x ∷ y ∷ z ∷ []) axis (pos 0)
 
--- a point kind: how many axes, how a point is made, what it tells on each axis, and the laws of that
+-- a point kind: its axes, how a point is made, what it tells on each axis, and the laws of that
 pub record KindMeaning (P : Type 0) : Type 0 where
   pub axes : ℕ
   pub make : ℤ → ℤ → ℤ → P
@@ -26,7 +26,8 @@ flat = record {
   axes = 2;
   make = λ x y z. record { x = x; y = y };
   coordinate = λ p axis. get_or (p.x ∷ p.y ∷ []) axis (pos 0);
-  some_axis = lit≤ tt; few_axes = lit≤ tt;
+  some_axis = lit≤ tt;
+  few_axes = lit≤ tt;
   told = λ x y z axis. get_or-take 2 (x ∷ y ∷ z ∷ []) axis (pos 0);
   beyond = λ p axis. get_or_past (p.x ∷ p.y ∷ []) axis (pos 0);
 }
@@ -37,7 +38,8 @@ mould = record {
   axes = 3;
   make = λ x y z. record { x = x; y = y; z = z };
   coordinate = λ p axis. get_or (p.x ∷ p.y ∷ p.z ∷ []) axis (pos 0);
-  some_axis = lit≤ tt; few_axes = lit≤ tt;
+  some_axis = lit≤ tt;
+  few_axes = lit≤ tt;
   told = λ x y z axis h. refl;
   beyond = λ p axis. get_or_past (p.x ∷ p.y ∷ p.z ∷ []) axis (pos 0);
 }

@@ -4,8 +4,7 @@ use lib.Ieee.{fin, of_bits, to_bits, fits}
 use Rattle.std.specs.Int.{int_wrap}
 use Rattle.predict.specs.Residues.{residues_from, values_from}
 use Rattle.pack.specs.Packing as P
-use Rattle.range.specs.Scale.{Scale, IsRange}
-use Rattle.range.specs.Units.{good_end, units_of, plain}
+use Rattle.range.specs.Scale.{Scale, IsRange, good_end, units_of, plain}
 use Rattle.range.specs.Scale.{code_in, place_in}
 use Rattle.panel.specs.Panel.{inside_on, codes_on, axes_from, inside_from}
 use Rattle.panel.specs.Written.{axis_bytes, file_of}

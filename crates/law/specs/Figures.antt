@@ -3,7 +3,7 @@ use Rattle.std.specs.Prelude.{◌≡◌, ℕ, List, [], ◌∷◌, take, replica
 use Rattle.kinds.specs.Kind.{flat}
 use Rattle.kinds.specs.declared.Flat.{Flat}
 use Rattle.range.specs.Scale.{Scale}
-use Rattle.range.specs.Figures as range
+use Rattle.range.specs.Laws as range
 use Rattle.predict.specs.Predictor.{lag1}
 use Rattle.predict.specs.Laws as predict
 use Rattle.pack.specs.Packing.{plain, fielded}

@@ -20,8 +20,7 @@ use Rattle.predict.specs.Residues.{start, values}
 use Rattle.predict.proofs.Undone.{length-values}
 use Rattle.pack.specs.Packing.{ReadingMeaning}
 use Rattle.range.specs.declared.words.Words.{Words}
-use Rattle.range.specs.Scale.{Scale, IsRange, is_code, quanta, scale_of}
-use Rattle.range.specs.Units.{plain}
+use Rattle.range.specs.Scale.{Scale, IsRange, is_code, quanta, scale_of, plain}
 use Rattle.range.proofs.Units.{plain_good, plain_units, plain_plain}
 use Rattle.range.proofs.Ranges.{code-nat, quanta-small}
 use Rattle.panel.specs.Layout.{Rest, rest_at, past, Layout, header_piece, range_piece, length_piece, end_piece}

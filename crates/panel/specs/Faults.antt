@@ -12,8 +12,7 @@ use Rattle.predict.specs.Residues.{values}
 use Rattle.pack.specs.Packing.{ReadingMeaning}
 use Rattle.range.specs.declared.ends.TheConstants.{MOST_BITS}
 use Rattle.range.specs.declared.words.Words.{Words}
-use Rattle.range.specs.Units.{good_end, units_of}
-use Rattle.range.specs.Scale.{Scale, is_code}
+use Rattle.range.specs.Scale.{Scale, is_code, good_end, units_of}
 use Rattle.panel.specs.Layout.{Rest, Layout, Header}
 
 -- a fault that a piece can have: why, where it is told, and whether this piece has it

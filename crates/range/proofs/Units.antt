@@ -11,7 +11,7 @@ use borrow.Author.Differences.{ints}
 use Rattle.std.proofs.lemmas.Bool.{cases_eq}
 use Rattle.std.proofs.lemmas.Bool.Decides.{nat_tests}
 use Rattle.std.specs.Float.{float_is_finite}
-use Rattle.range.specs.Units.{InUnits, good_end, signed, units_of, plain}
+use Rattle.range.specs.Scale.{InUnits, good_end, signed, units_of, plain}
 use Rattle.range.specs.Laws.{EndsMean, PlainUnits, WordsStay}
 use Rattle.range.specs.declared.ends.TheConstants.{FARTHEST_UNITS}
 

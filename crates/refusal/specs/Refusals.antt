@@ -47,8 +47,8 @@ padded_decimal k n = replicate (k - length (decimal n)) 48 ++ decimal n
 
 -- the text of a refusal: at least two digits of its number, and five of its place
 abbrev pub text_of : Refusal → List ℕ
-text_of e =
-    codes "refused " ++ (padded_decimal 2 (number_of e.why) ++ (codes " at " ++ padded_decimal 5 e.place))
+text_of e = codes "refused "
+    ++ (padded_decimal 2 (number_of e.why) ++ (codes " at " ++ padded_decimal 5 e.place))
 
 -- the line of a refusal: the text and a newline, with only the last five digits of the place
 abbrev pub line_of : Refusal → List ℕ

@@ -38,14 +38,14 @@ unfoldable pub pick : List Vertex → ℕ → Chord → Option ℕ
 pick vs t x =
     over_limit (limit vs t x.from x.to) (heaviest (weight vs x.from x.to) x.from (inner x))
 
--- the two parts of a chord that is split at c: the one with fewer inner vertices goes first, the earlier
--- of equals; the other waits
+-- the two parts of a chord that is split at c: the one with fewer inner vertices goes first, the
+-- earlier of equals; the other waits
 abbrev pub parts_of : Chord → ℕ → Chord × Chord
 parts_of x c =
     if nat_le (c - x.from) (x.to - c) then (chord x.from c, chord c x.to)
     else (chord c x.to, chord x.from c)
 
--- how a chord is split: not at all, or at a vertex, into the part that goes first and the one that waits
+-- how a chord is split: not at all, or at a vertex, into the part that goes first and the other
 pub data Tree : Type 0 where
   whole : Chord → Tree
   parted : Chord → ℕ → Tree → Tree → Tree
@@ -115,7 +115,7 @@ module _ {P : Type 0} (k : KindMeaning P) where
       let tree : Tree = tree_of t n (take n points) in
       (Ok (2 + kept tree, waits tree), marked tree (ends n marks))
 
-  -- the answer of a split of the first n points, where n itself may be wrong, and the marks after it
+  -- the answer of a split of the first n points, where n may be wrong, and the marks after it
   abbrev pub split_of : ℕ → ℕ → List P → List ℕ → Result (ℕ × ℕ) Why × List ℕ
   split_of t n points marks =
       let wrong = if nat_lt 256 t then Some Tolerance else Some VertexCount in

@@ -53,7 +53,7 @@ pub(crate) struct Line<'a, K: PointKind> {
 
 impl<'a, K: PointKind> Line<'a, K> {
     // The line of these points, if each lies within the bench.
-    #[tactic(auto, using(crate::proofs::Vertices::all_told))]
+    #[tactic(auto, using(crate::proofs::Weights::all_told))]
     pub(crate) fn new(points: &'a [K]) -> Result<Line<'a, K>, Why>
         requires { IsVertexCount (length points.now) }
         ensures { let near = all_close_by (told K.kind points.now) in
@@ -84,7 +84,7 @@ impl<'a, K: PointKind> Line<'a, K> {
     // The heaviest vertex inside a chord, the first of equals; none where no vertex lies inside. The caller names the
     // chord's major axis and way.
     #[inline(always)]
-    #[tactic(auto, using(crate::proofs::Vertices::heaviest_more), unfolding(crate::specs::Weight::weights_from))]
+    #[tactic(auto, using(crate::proofs::Weights::heaviest_more), unfolding(crate::specs::Weight::weights_from))]
     fn heaviest(&self, gauge: &Gauge, major: Axis, way: Way, chord: Chord) -> Option<Weighed>
         requires major { major ≡ gauge.now.major }
         requires way { way ≡ gauge.now.way }
