@@ -14,7 +14,7 @@ use Rattle.panel.proofs.Sound.{every_file_read_back, stores-the-file}
 use Rattle.law.specs.Calls.{Load, meaning_of, kept_of, Cut}
 use Rattle.law.specs.Law.{Stored, Steps, IsChain, Follows, Meant, WellDrawn, step_on, stroke_from, stroke_to, m_of_stroke, scale_on, marks_of, must_keep}
 use Rattle.kinds.specs.Vertex.{Vertex, at, told, all_close_by}
-use Rattle.seam.specs.Ones.{ones}
+use Rattle.seam.specs.Seam.{ones}
 use Rattle.panel.specs.Panel.{place_at, vertex, placed}
 use Rattle.std.specs.List.{AllByRecursion}
 use Rattle.std.proofs.ByRecursion.{All-map, All-get_or}

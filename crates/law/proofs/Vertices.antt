@@ -11,11 +11,12 @@ use Rattle.panel.specs.Panel.{place_at, vertex, placed}
 use Rattle.law.specs.Program.{steps}
 use Rattle.law.specs.Law.{step_on, Steps}
 use Rattle.seam.specs.Seam.{cleared, ends}
-use Rattle.seam.specs.Split.{Tree, whole, parted, marked}
+use Rattle.seam.specs.Seam.{Tree, parted, marked}
+use Rattle.seam.specs.Laws.{whole}
 use Rattle.std.specs.List.{AllByRecursion}
 use Rattle.std.proofs.ByRecursion.{All-from_get_or}
 use Rattle.words.specs.Numbers.{Word}
-use Rattle.seam.proofs.Vertices.{close-each}
+use Rattle.seam.proofs.Weights.{close-each}
 use Rattle.law.specs.Calls.{kept_of}
 
 place-past : (xs : List Axis) (j i : ℕ) → length xs ≤ j → place_at xs j i ≡ pos 0

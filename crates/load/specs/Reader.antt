@@ -2,7 +2,7 @@
 use Rattle.std.specs.Prelude.{◌≡◌, ℕ, zero, suc, ◌+◌, ◌≤◌, true, false, ◌⊎◌, List, [], ◌∷◌, ◌++◌, take, drop, ℤ, Ok, Err, Result}
 use Rattle.std.specs.List.{AllByRecursion}
 use Rattle.words.specs.Order.{Order}
-use Rattle.refusal.specs.Numbers.{number_of}
+use Rattle.refusal.specs.Refusals.{number_of}
 use Rattle.refusal.specs.declared.Why.{Why}
 use Rattle.refusal.specs.declared.Refusal.{Refusal}
 use Rattle.predict.specs.Predictor.{PredictorMeaning}

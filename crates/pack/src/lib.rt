@@ -4,7 +4,7 @@
 ghost use Rattle.std.specs.Prelude.{◌≡◌, ℕ, ◌+◌, ◌-◌, ◌*◌, ◌/◌, ◌%◌, ◌^◌, ◌<◌, ◌≤◌, [], ◌∷◌, ◌++◌, map, length, drop, All, Contains, pos, slice_index_or, Ok, IsOk, IfOk, IfErr, ◌≤ℤ◌, refl};
 ghost use Rattle.std.specs.Result.{result_and, result_unwrap_or};
 ghost use Rattle.std.specs.Int.Digits.{number_from_digits, AllBelowBase};
-ghost use Rattle.kinds.specs.Count.{IsVertexCount};
+ghost use Rattle.kinds.specs.Vertex.{IsVertexCount};
 ghost use Rattle.refusal.specs.declared.Why.TheVariants.{BodyLength};
 ghost use Rattle.words.specs.Order.{bytes_of};
 ghost use Rattle.pack.specs.Packing.{ReadingMeaning, PackingMeaning, plain, fielded};

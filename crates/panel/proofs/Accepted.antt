@@ -1,7 +1,7 @@
 -- What is known of the panel of an accepted file, and of the refusal of any other.
 use Rattle.panel.proofs.Names.{◌≡◌, ℕ, zero, suc, ◌^◌, ◌<◌, ◌≤◌, true, List, [], ◌∷◌, length, ℤ, Ok, Err, Result, leb, sym, refl, ap, ◌∙◌, ap₂, subst, ⊎_elim, arith, lit≤, Float, nan, inf, fin, binary32, fits, of_bits, lt_z, ◌⊎◌, IfOk, IfErr, AllByRecursion, result_map_both, cond_both, and_parts, not-false, leb-true, ltb-false, le-ltb, Word, Order, Why, Refusal, and_then, refusal_at, IsVertexCount, PredictorMeaning, start, values, length-values, ReadingMeaning, Words, Scale, IsRange, quanta, scale_of, plain, code-nat, quanta-small, Rest, rest_at, past, Layout, header_piece, range_piece, length_piece, end_piece, Axis, Panel, Fault, unless, piece_faults, header_faults, range_faults, cut_short, all_codes, code_faults, trailing_faults, taken, bytes_taken, end_at, nothing_follows, scale_at, body_at, Opened, opened, with_axis, head_at, axis_at, axes_at, panel_at, judged, of_bits-fits, is_true as holds, T_from_true as passes}
 use Rattle.refusal.specs.declared.Why.TheVariants.{BodyLength, SpareBits}
-use Rattle.refusal.specs.Numbers.{number_of}
+use Rattle.refusal.specs.Refusals.{number_of}
 use Rattle.range.proofs.Units.{plain_good, plain_units, plain_plain}
 use Rattle.panel.proofs.Faults.{NoneFound, is_count, unless_none, then_ok}
 

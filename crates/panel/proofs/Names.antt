@@ -1,6 +1,6 @@
 -- The names that several of these proofs cite, passed on from one place.
 pub use Rattle.std.proofs.Common.{◌≡◌, ℕ, ◌+◌, ◌≤◌, List, ◌++◌, length, take, drop, refl, sym, ap, ◌∙◌, ap₂, append-nil, arith, length-append, length-take, append_assoc, ◌*◌, w32, ◌<◌, true, get_or, ℤ, Bool, [], ◌∷◌, set, zero, suc, pos, ◌^◌, Ok, not, false, subst, Result, Err, leb, ⊎_elim, lit≤, true≢false, is_ok}
-pub use Rattle.kinds.specs.Count.{IsVertexCount, is_vertex_count}
+pub use Rattle.kinds.specs.Vertex.{IsVertexCount, is_vertex_count}
 pub use Rattle.kinds.specs.Kind.{KindMeaning}
 pub use Rattle.pack.specs.Packing.{PackingMeaning, ReadingMeaning}
 pub use Rattle.panel.specs.Judging.{piece_faults, header_faults, range_faults, cut_short, code_faults, Fault, unless, trailing_faults, taken, bytes_taken, scale_at, body_at, Opened, coded, with_axis, head_at, axis_at, end_at, nothing_follows}
@@ -16,7 +16,7 @@ unfoldable pub use Rattle.predict.specs.Residues.{residues_from}
 pub use Rattle.range.proofs.Ranges.{stays, code-within, code-nat, quanta-small}
 pub use Rattle.range.specs.Scale.{in_words, Scale, inside, IsRange, scale_from, quanta, scale_of}
 unfoldable pub use Rattle.range.specs.Scale.{code_in, place_in}
-unfoldable pub use Rattle.range.specs.Units.{good_end, units_of, plain}
+unfoldable pub use Rattle.range.specs.Scale.{good_end, units_of, plain}
 pub use Rattle.range.specs.declared.words.Words.{Words}
 pub use Rattle.refusal.specs.Refusals.{refusal_at, and_then}
 pub use Rattle.refusal.specs.declared.Refusal.{Refusal}

@@ -1,6 +1,6 @@
 // The pieces of an axis: its range, and the body of what is stored of the points' codes.
 ghost use Rattle.std.specs.Prelude.{◌≡◌, ◌+◌, ◌≤◌, length};
-ghost use Rattle.kinds.specs.Count.{IsVertexCount};
+ghost use Rattle.kinds.specs.Vertex.{IsVertexCount};
 ghost use Rattle.words.specs.Bytes.{overwritten};
 ghost use Rattle.panel.specs.Layout.{stored_axis};
 ghost use Rattle.panel.specs.declared.pieces.TheConstants.{LENGTH_SIZE, RANGE_SIZE};

@@ -1,7 +1,7 @@
 // Design points, and the file that they are stored as.
 ghost use Rattle.std.specs.Prelude.{◌≡◌, ◌≤◌, true, [], ◌∷◌, length, nat_lt, Ok};
 ghost use Rattle.predict.specs.Residues.{residues};
-ghost use Rattle.kinds.specs.Count.{IsVertexCount};
+ghost use Rattle.kinds.specs.Vertex.{IsVertexCount};
 ghost use Rattle.words.specs.Bytes.{overwritten};
 ghost use Rattle.panel.specs.Panel.{codes_on, inside_from, inside_on, panel_on};
 ghost use Rattle.panel.specs.Judging.{fault, unless};
