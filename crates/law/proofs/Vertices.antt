@@ -11,8 +11,7 @@ use Rattle.panel.specs.Panel.{place_at, vertex, placed}
 use Rattle.law.specs.Program.{steps}
 use Rattle.law.specs.Law.{step_on, Steps}
 use Rattle.seam.specs.Seam.{cleared, ends}
-use Rattle.seam.specs.Seam.{Tree, parted, marked}
-use Rattle.seam.specs.Laws.{whole}
+use Rattle.seam.specs.Seam.{Tree, whole, parted, marked}
 use Rattle.std.specs.List.{AllByRecursion}
 use Rattle.std.proofs.ByRecursion.{All-from_get_or}
 use Rattle.words.specs.Numbers.{Word}

@@ -10,11 +10,9 @@ use Rattle.predict.specs.Predictor.{PredictorMeaning}
 use Rattle.pack.specs.Packing.{ReadingMeaning}
 use Rattle.words.specs.Order.{low_first}
 use Rattle.words.specs.Bytes.{overwritten}
-use Rattle.panel.specs.Panel.{Panel}
+use Rattle.panel.specs.Panel.{Panel, placed}
 use Rattle.panel.specs.Judging.{judged}
-use Rattle.seam.specs.Seam.{ones}
-use Rattle.seam.specs.Seam.{marked, waits, kept}
-use Rattle.seam.specs.Seam.{ends, tree_of, why_not, short_list}
+use Rattle.seam.specs.Seam.{ones, marked, waits, kept, ends, tree_of, why_not, short_list}
 use Rattle.law.specs.declared.Stage.{Stage}
 use Rattle.law.specs.declared.Stage.TheVariants.{Empty, Loaded, Split, Closed}
 use Rattle.law.specs.declared.Event.{Event}

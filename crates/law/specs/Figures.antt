@@ -8,7 +8,7 @@ use Rattle.predict.specs.Predictor.{lag1}
 use Rattle.predict.specs.Laws as predict
 use Rattle.pack.specs.Packing.{plain, fielded}
 use Rattle.pack.specs.Laws as pack
-use Rattle.seam.specs.Figures as seam
+use Rattle.seam.specs.Laws as seam
 use Rattle.law.specs.Calls.{Load, load_of, Call, load, split, cut, close, State, lists_of, new, run, accepted}
 use Rattle.law.specs.Law.{Stored}
 
