@@ -76,8 +76,8 @@ panel_count (Loaded n) = Some n
 panel_count (Split n) = Some n
 panel_count Closed = None
 
--- what a stage gives a call of this name: the vertex count of its panel, if there is one (for a split or a cut there is);
--- or why it refuses
+-- what a stage gives a call of this name: the vertex count of its panel, if there is one (for a split or a cut
+-- there is); or why it refuses
 abbrev pub admitted : Stage → Event → Result (Option ℕ) Refusal
 admitted Closed e = refuse AlreadyClosed 0
 admitted Empty event.Split = refuse TooEarly 0
