@@ -73,7 +73,8 @@ panel_count (Loaded n) = Some n
 panel_count (Split n) = Some n
 panel_count Closed = None
 
--- what a stage gives a call of this name: the vertex count of its panel, if there is one; or why it refuses
+-- what a stage gives a call of this name: the vertex count of its panel, if there is one (for a split or a cut
+-- there is); or why it refuses
 abbrev pub admitted : Stage → Event → Result (Option ℕ) Refusal
 admitted Closed e = refuse AlreadyClosed 0
 admitted Empty event.Split = refuse TooEarly 0
@@ -94,12 +95,12 @@ abbrev pub settled : {X L : Type 0} → Desk → L → Result (X × Desk × L) R
 settled d list (Ok done) = record { answer = Ok done.0; bench = done.1; list = done.2 }
 settled d list (Err e) = record { answer = Err e; bench = d; list = list }
 
--- done, barring a reason against it
+-- accepted with x, barring a reason against it: then refused for that
 abbrev pub barring : {X : Type 0} → Option Why → X → Result X Refusal
 barring None x = Ok x
 barring (Some why) x = refuse why 0
 
--- the bytes behind the program; the bench at such a stage, and its program so much longer
+-- these bytes behind the program: its new length is answered, and the bench has it, at this stage
 abbrev pub longer : Stage → Desk → List ℕ → List ℕ → ℕ × Desk × List ℕ
 longer stage d program bytes =
     let end : ℕ = d.length + length bytes in
@@ -183,7 +184,7 @@ pub record Effect (P : Type 0) : Type 0 where
   pub answer : Answer
   pub after : State P
 
--- so from what is done to one list, which then stands among these lists
+-- the same from what is done to one list, which then stands among the three
 abbrev pub effect : {X L P : Type 0} → (X → Report) → (L → Lists P) → Done X L → Effect P
 effect report among done = record {
   answer = report_as report done.answer;

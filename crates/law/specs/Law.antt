@@ -131,8 +131,8 @@ module _ {P : Type 0} (k : KindMeaning P) where
     pub follows : (gs : List Scale) (design : List P) → Stored w.panel gs design →
         Follows w.tolerance gs design c
 
-  -- A program, after these accepted calls, misplaces no panel: it is one chain for each accepted cut, well drawn, then the
-  -- finish if a close was accepted, and nothing else.
+  -- A program, after these accepted calls, misplaces no panel: it is one chain for each accepted cut, well
+  -- drawn, then the finish if a close was accepted, and nothing else.
   pub record MisplacesNone (calls : List Call) (program : List ℕ) : Type 0 where
     pub chains : List Chain
     pub alone : Reads k.axes program chains (closes calls)

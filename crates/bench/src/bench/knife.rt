@@ -1,5 +1,5 @@
-// The knife, raised or lowered. Its state is a type parameter, and it is moved: a call takes the knife and gives it back in
-// the next state, so none is used twice, and none is let go but by a call that says so.
+// The knife, raised or lowered. Its state is a type parameter, and it is moved: a call takes the knife and
+// gives it back in the next state, so none is used twice, and none is let go but by a call that says so.
 ghost use Rattle.std.specs.Prelude.{◌≡◌, ◌+◌, ◌*◌, ◌<◌, ◌≤◌, [], ◌∷◌, length, nat_le};
 ghost use Rattle.words.specs.Order.{low_first, spelled};
 ghost use Rattle.law.specs.Program.{steps, travel as travel_bytes, lower as lower_bytes, stroke as stroke_bytes, raise as raise_bytes, finish as finish_bytes};
@@ -116,8 +116,8 @@ impl Knife<Lowered> {
 
 // Writing is the same in each state.
 impl<S> Knife<S> {
-    // Where so many bytes have room, the letter is written, and the knife goes on behind the bytes, in the next state; else
-    // nothing is written, and it comes back as it was.
+    // Where so many bytes have room, the letter is written, and the knife goes on behind the bytes, in the next
+    // state; else nothing is written, and it comes back as it was.
     fn advance<T>(
         self,
         program: &mut [u8],
