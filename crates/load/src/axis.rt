@@ -1,8 +1,7 @@
 // An axis of a panel file: its range and its body.
 ghost use Rattle.std.specs.Prelude.{◌≡◌, IfOk, Ok, length};
-ghost use Rattle.panel.specs.Judging.{unless, range_faults, scale_at, opened};
 ghost use Rattle.range.specs.Scale.{scale_of};
-ghost use Rattle.panel.specs.Judging.{scale_at, opened};
+ghost use Rattle.panel.specs.Judging.{unless, range_faults, scale_at, opened};
 ghost use Rattle.load.specs.Pieces.{told_by, says_axis};
 
 use crate::body::Body;
@@ -33,8 +32,8 @@ impl<'a, O: ByteOrder, Q: Unpacking> Axis<'a, O, Q> {
         let (Piece::Length(len), rest) = rest.take::<O>(Due::Length)? else {
             unreachable!()
         };
-        let offset = rest.at();
-        let (Piece::Body(bytes), rest) = rest.take::<O>(Due::Body(len as usize))? else {
+        let body = rest.take::<O>(Due::Body(len as usize))?;
+        let (Piece::Body { bytes, offset }, rest) = body else {
             unreachable!()
         };
         let body = Body::judge(bytes, n).map_err(|why| why.at(offset))?;
