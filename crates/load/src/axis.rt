@@ -2,7 +2,6 @@
 ghost use Rattle.std.specs.Prelude.{◌≡◌, IfOk, Ok, length};
 ghost use Rattle.panel.specs.Judging.{unless, range_faults, scale_at, opened};
 ghost use Rattle.range.specs.Scale.{scale_of};
-ghost use Rattle.panel.specs.Judging.{scale_at, opened};
 ghost use Rattle.load.specs.Pieces.{told_by, says_axis};
 
 use crate::body::Body;
