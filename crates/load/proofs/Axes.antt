@@ -13,11 +13,9 @@ use Rattle.predict.specs.Predictor.{PredictorMeaning}
 use Rattle.predict.specs.Residues.{values}
 use Rattle.pack.specs.Packing.{ReadingMeaning}
 use Rattle.range.specs.Scale.{Scale, place_in}
-use Rattle.panel.specs.Panel.{Axis, Panel}
+use Rattle.panel.specs.Panel.{Axis, Panel, place_at, vertex, placed}
 use Rattle.panel.specs.Layout.{Rest, rest_at}
-use Rattle.panel.specs.Judging.{all_codes}
-use Rattle.panel.specs.Judging.{Opened, opened, coded, with_axis, axes_at, judged}
-use Rattle.panel.specs.Panel.{place_at, vertex, placed}
+use Rattle.panel.specs.Judging.{all_codes, Opened, opened, coded, with_axis, axes_at, judged}
 use Rattle.panel.specs.Stored.{filled}
 use Rattle.panel.proofs.Faults.{then_was}
 use Rattle.panel.proofs.Accepted.{IsAxis, IsPanel, accepted}

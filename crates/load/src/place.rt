@@ -3,7 +3,6 @@ ghost use Rattle.std.specs.Prelude.{◌≡◌, ◌≤◌, true, IsOk, length, Ok
 ghost use Rattle.predict.specs.Residues.{values};
 ghost use Rattle.panel.specs.Judging.{all_codes, axes_at, judged};
 ghost use Rattle.panel.specs.Layout.{header_piece};
-ghost use Rattle.panel.specs.Judging.{axes_at, judged};
 ghost use Rattle.panel.specs.Stored.{filled};
 ghost use Rattle.load.specs.Pieces.{count_of};
 ghost use Rattle.load.specs.Filling.{moved, fill_on, fill_by};

@@ -1,7 +1,6 @@
 use Rattle.std.proofs.Common.{◌≡◌, ◌-◌}
 use Rattle.predict.specs.Residues.{values}
-use Rattle.panel.specs.Judging.{all_codes}
-use Rattle.panel.specs.Judging.{axes_at}
+use Rattle.panel.specs.Judging.{all_codes, axes_at}
 use Rattle.load.specs.Pieces.{left_of}
 use Rattle.load.proofs.judge.axes.Given as goal
 
