@@ -1,6 +1,6 @@
 -- A panel on a bench, and what a caller sees of its calls, up to the first that is refused.
 use Rattle.std.specs.Prelude.{ℕ, Option, List, [], ◌∷◌, IfSome, is_ok, if◌then◌else◌}
-use Rattle.kinds.specs.Count.{IsVertexCount}
+use Rattle.kinds.specs.Vertex.{IsVertexCount}
 use Rattle.kinds.specs.Kind.{KindMeaning}
 use Rattle.law.specs.declared.Stage.{Stage}
 use Rattle.law.specs.Calls.{Load, Call, load, split, cut, close, Lists, State, new, Answer, Effect, panel_count, step}

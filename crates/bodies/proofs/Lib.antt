@@ -1,2 +1,2 @@
-pub mod Plain
-pub mod Fielded
+pub mod Digits
+pub mod Bodies

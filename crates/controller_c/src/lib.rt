@@ -3,7 +3,7 @@
 
 ghost use Rattle.std.specs.Prelude.{◌≡◌, [], ◌∷◌, length, IfOk};
 ghost use Rattle.std.specs.List.{AllByRecursion};
-ghost use Rattle.kinds.specs.Models.{flat, mould};
+ghost use Rattle.kinds.specs.Kind.{flat, mould};
 ghost use Rattle.range.specs.Scale.{IsRange};
 ghost use Rattle.seam.specs.Seam.{split_of};
 ghost use Rattle.law.specs.Calls.{lists_of};

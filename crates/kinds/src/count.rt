@@ -1,6 +1,6 @@
 // How many vertices a panel has.
 ghost use Rattle.std.specs.Prelude.{◌≡◌, if◌then◌else◌, Some, None, Option};
-ghost use Rattle.kinds.specs.Count.{IsVertexCount, is_vertex_count};
+ghost use Rattle.kinds.specs.Vertex.{IsVertexCount, is_vertex_count};
 
 use std::marker::Model;
 
@@ -16,7 +16,7 @@ pub struct VertexCount {
 
 impl Model for VertexCount {
     ghost use Rattle.std.specs.Prelude.{ℕ};
-    ghost use Rattle.kinds.specs.Count.{IsVertexCount};
+    ghost use Rattle.kinds.specs.Vertex.{IsVertexCount};
 
     ghost Value = { ℕ };
 

@@ -14,12 +14,12 @@ use Rattle.panel.proofs.Sound.{every_file_read_back, stores-the-file}
 use Rattle.law.specs.Calls.{Load, meaning_of, kept_of, Cut}
 use Rattle.law.specs.Law.{Stored, Steps, IsChain, Follows, Meant, WellDrawn, step_on, stroke_from, stroke_to, m_of_stroke, scale_on, marks_of, must_keep}
 use Rattle.kinds.specs.Vertex.{Vertex, at, told, all_close_by}
-use Rattle.seam.specs.Ones.{ones}
-use Rattle.panel.specs.Placed.{place_at, vertex, placed}
+use Rattle.seam.specs.Seam.{ones}
+use Rattle.panel.specs.Panel.{place_at, vertex, placed}
 use Rattle.std.specs.List.{AllByRecursion}
 use Rattle.std.proofs.ByRecursion.{All-map, All-get_or}
 use Rattle.law.specs.Program.{Chain, steps, through as through-all}
-use Rattle.law.proofs.Strokes.{ones-one, ones-grows, length-kept, length-marks, marks-near, stroke, never-falls, stands, count-strokes, some-strokes, lies_along}
+use Rattle.law.proofs.Strokes.{ones-one, ones-grows, length-kept, length-marks, marks-near, stroke, never-falls, stands, count-strokes, last-counts, some-strokes, lies_along}
 use Rattle.law.proofs.Vertices.{length-placed, at-placed, vertex-tells, all-kept, all-steps}
 use Rattle.panel.proofs.Accepted.{accepted as known}
 use lib.Ieee.{nan}
@@ -134,15 +134,10 @@ module _ {P : Type 0} (k : KindMeaning P) (w : Cut) (x : Panel) (meant : Meant k
 
   ending : stroke_to chain_of (length chain_of.strokes - 1) ≡ steps k (vertex k x (x.count - 1))
   ending =
-      let ms = marks_of k w.tolerance x in
-      let near = marks-near k w.tolerance x many in
       let n : ℕ = x.count - 1 in
-      let full : x.count ≡ suc n = omega (arith, many) in
-      let all : suc (length chain_of.strokes) ≡ ones x.count ms = count-strokes k w.tolerance x many chain_of is in
-      let last : ones x.count ms ≡ 1 + ones n ms = ap (λ (c : ℕ). ones c ms) full ∙ ones-one n ms near.last in
       let some = some-strokes k w.tolerance x many chain_of is in
-      let number : suc (length chain_of.strokes - 1) ≡ ones n ms = omega arith in
-      ap (λ (c : ℕ). get_or (chain_of.from ∷ chain_of.strokes) c []) number ∙ stands k w.tolerance x many chain_of is n (omega arith) near.last
+      let number : suc (length chain_of.strokes - 1) ≡ ones n (marks_of k w.tolerance x) = omega (arith, count-strokes k w.tolerance x many chain_of is, last-counts k w.tolerance x many chain_of is) in
+      ap (λ (c : ℕ). get_or (chain_of.from ∷ chain_of.strokes) c []) number ∙ stands k w.tolerance x many chain_of is n (omega (arith, many)) (marks-near k w.tolerance x many).last
 
   -- its steps fit a program's numbers, where the split found each vertex close by
   pub whole : all_close_by (told k (placed k x)) ≡ true → IsChain k.axes chain_of

@@ -5,15 +5,13 @@ use Rattle.std.specs.Int.{int_wrap}
 use Rattle.predict.specs.Residues.{residues_from, values_from}
 use Rattle.pack.specs.Packing as P
 use Rattle.range.specs.Scale.{Scale, IsRange, code_in, place_in}
-use Rattle.range.specs.Units.{good_end, units_of, plain}
-use Rattle.panel.specs.Panel.{inside_on, codes_on, axes_from, inside_from}
+use Rattle.range.specs.Scale.{good_end, units_of, plain}
+use Rattle.panel.specs.Panel.{inside_on, codes_on, axes_from, inside_from, place_at, placed}
 use Rattle.panel.specs.Layout.{axis_bytes, file_of}
-use Rattle.panel.specs.Faults.{all_codes}
-use Rattle.panel.specs.Judging.{opened, axes_at, panel_at, judged}
-use Rattle.panel.specs.Placed.{place_at, placed}
-use Rattle.seam.specs.Split.{grow, tree}
+use Rattle.panel.specs.Judging.{all_codes, opened, axes_at, panel_at, judged}
+use Rattle.seam.specs.Seam.{grow, tree}
 use Rattle.seam.specs.Weight.{from_to, m_of, weights_from, weight, limit}
-use Rattle.seam.specs.Seam.{pick, tree_of}
+use Rattle.seam.specs.Seam.{pick, tree_of, grow, tree}
 use Rattle.law.specs.Program.{chain_bytes}
 use Rattle.law.specs.Calls.{drawn}
 use Rattle.law.specs.Figures.{Run}

@@ -7,15 +7,16 @@ use Rattle.std.proofs.lemmas.Bool.{cases_lt, and_parts, cond_both}
 use Rattle.kinds.specs.Kind.{KindMeaning, triple}
 use Rattle.kinds.specs.Vertex.{at, told, OnBench, close_by, all_close_by}
 use Rattle.panel.specs.Panel.{Axis, Panel}
-use Rattle.panel.specs.Placed.{place_at, vertex, placed}
+use Rattle.panel.specs.Panel.{place_at, vertex, placed}
 use Rattle.law.specs.Program.{steps}
 use Rattle.law.specs.Law.{step_on, Steps}
 use Rattle.seam.specs.Seam.{cleared, ends}
-use Rattle.seam.specs.Split.{Tree, whole, parted, marked}
+use Rattle.seam.specs.Seam.{Tree, parted, marked}
+use Rattle.seam.specs.Laws.{whole}
 use Rattle.std.specs.List.{AllByRecursion}
 use Rattle.std.proofs.ByRecursion.{All-from_get_or}
 use Rattle.words.specs.Numbers.{Word}
-use Rattle.seam.proofs.Vertices.{close-each}
+use Rattle.seam.proofs.Weights.{close-each}
 use Rattle.law.specs.Calls.{kept_of}
 
 place-past : (xs : List Axis) (j i : ℕ) → length xs ≤ j → place_at xs j i ≡ pos 0
@@ -72,18 +73,14 @@ take-set-in (suc n) (m ∷ ms) (suc i) y = ap (λ (l : List ℕ). m ∷ l) (take
 
 take-marked : (n : ℕ) (t : Tree) (ms : List ℕ) → take n (marked t ms) ≡ marked t (take n ms)
 take-marked n (whole x) ms = refl
-take-marked n (parted x c f w) ms =
-    take-marked n w (marked f (set ms c 1)) ∙ ap (marked w) (take-marked n f (set ms c 1) ∙ ap (marked f) (take-set-in n ms c 1))
+take-marked n (parted x c f w) ms = rw (take-marked n w (marked f (set ms c 1)), take-marked n f (set ms c 1), take-set-in n ms c 1) refl
 
 take-cleared : (n : ℕ) (ms : List ℕ) → take n (cleared n ms) ≡ cleared n (replicate n 0)
 take-cleared n ms =
     take_at (replicate n 0) (drop n ms) n (length-replicate n 0) ∙ sym (ap (λ (l : List ℕ). replicate n 0 ++ l) (drop_all n (replicate n 0) (omega (arith, length-replicate {A = ℕ} n 0))) ∙ append-nil (replicate n 0))
 
 pub take-marks : (n : ℕ) (t : Tree) (ms : List ℕ) → take n (marked t (ends n ms)) ≡ marked t (ends n (replicate n 0))
-take-marks n t ms =
-    take-marked n t (ends n ms)
-    ∙ ap (marked t) (take-set-in n (set (cleared n ms) 0 1) (n - 1) 1
-    ∙ ap (λ (l : List ℕ). set l (n - 1) 1) (take-set-in n (cleared n ms) 0 1 ∙ ap (λ (l : List ℕ). set l 0 1) (take-cleared n ms)))
+take-marks n t ms = rw (take-marked n t (ends n ms), take-set-in n (set (cleared n ms) 0 1) (n - 1) 1, take-set-in n (cleared n ms) 0 1, take-cleared n ms) refl
 
 -- what holds of all points holds of those that are kept
 pub all-kept : {X : Type 0} (Q : X → Type 0) (ms : List ℕ) (ps : List X) → AllByRecursion Q ps → AllByRecursion Q (kept_of ms ps)

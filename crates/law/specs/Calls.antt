@@ -12,9 +12,8 @@ use Rattle.words.specs.Order.{low_first}
 use Rattle.words.specs.Bytes.{overwritten}
 use Rattle.panel.specs.Panel.{Panel}
 use Rattle.panel.specs.Judging.{judged}
-use Rattle.panel.specs.Placed.{placed}
-use Rattle.seam.specs.Ones.{ones}
-use Rattle.seam.specs.Split.{marked, waits, kept}
+use Rattle.seam.specs.Seam.{ones}
+use Rattle.seam.specs.Seam.{marked, waits, kept}
 use Rattle.seam.specs.Seam.{ends, tree_of, why_not, short_list}
 use Rattle.law.specs.declared.Stage.{Stage}
 use Rattle.law.specs.declared.Stage.TheVariants.{Empty, Loaded, Split, Closed}

@@ -1,9 +1,9 @@
 -- Figures reckoned by hand: a whole run on one bench, and those of the other crates.
 use Rattle.std.specs.Prelude.{◌≡◌, ℕ, ◌/◌, ◌%◌, List, [], ◌∷◌, ◌++◌, length, take, replicate, pos, Some, None}
-use Rattle.kinds.specs.Models.{flat}
+use Rattle.kinds.specs.Kind.{flat}
 use Rattle.kinds.specs.declared.Flat.{Flat}
 use Rattle.range.specs.Scale.{Scale}
-use Rattle.range.specs.Figures as range
+use Rattle.range.specs.Laws as range
 use Rattle.predict.specs.Predictor.{lag1}
 use Rattle.predict.specs.Laws as predict
 use Rattle.pack.specs.Packing.{plain, fielded}

@@ -8,12 +8,10 @@ use Rattle.kinds.specs.declared.count.TheConstants.{MOST_VERTICES}
 use Rattle.words.specs.Numbers.{Word}
 use Rattle.pack.specs.Packing.{PackingMeaning}
 use Rattle.range.specs.Scale.{Scale, IsRange, quanta, width}
-use Rattle.panel.specs.Panel.{Panel}
-use Rattle.panel.specs.Placed.{vertex, placed}
+use Rattle.panel.specs.Panel.{Panel, vertex, placed}
 use Rattle.panel.specs.Stored.{Outcome as StoreOutcome, store_of}
 use Rattle.seam.specs.Weight.{from_to, m_of}
-use Rattle.seam.specs.Split.{marked}
-use Rattle.seam.specs.Seam.{ends, tree_of}
+use Rattle.seam.specs.Seam.{ends, tree_of, marked}
 use Rattle.law.specs.Program.{Chain, steps, program_bytes}
 use Rattle.law.specs.Calls.{meaning_of, Load, Call, Lists, new, kept_of, run, accepted, Cut, cuts, closes}
 

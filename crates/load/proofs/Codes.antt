@@ -1,5 +1,5 @@
 -- Codes one after another, from what a packing reads. Assumes nothing.
-use Rattle.std.proofs.Common.{◌≡◌, ℕ, ◌+◌, ◌<◌, ◌≤◌, true, false, ◌&&◌, List, [], ◌∷◌, ◌++◌, length, get_or, take, drop, set, ℤ, pos, sym, ap, ◌∙◌, ap₂, append_assoc, arith, to_z, of_z, w32, SFits}
+use Rattle.std.proofs.Common.{◌≡◌, ℕ, ◌+◌, ◌<◌, ◌≤◌, Bool, ◌&&◌, List, [], ◌∷◌, ◌++◌, length, get_or, take, drop, set, ℤ, pos, sym, ap, ◌∙◌, ap₂, append_assoc, arith, to_z, of_z, w32, SFits}
 use Rattle.std.proofs.lemmas.Int.{to_z-of_z}
 use Rattle.std.proofs.lemmas.List.{drop_more, drop_all, take_more_set, drop-set-lt, take-append-drop}
 use Rattle.kinds.specs.Kind.{KindMeaning}
@@ -7,7 +7,7 @@ use Rattle.predict.specs.declared.Before.{Before}
 use Rattle.predict.specs.Predictor.{PredictorMeaning}
 use Rattle.predict.specs.Residues.{after, restored, values_from}
 use Rattle.range.specs.Scale.{Scale, is_code, place_in}
-use Rattle.panel.specs.Faults.{all_codes}
+use Rattle.panel.specs.Judging.{all_codes}
 use Rattle.load.specs.Filling.{moved, fill_on}
 
 -- the codes that are left
@@ -24,21 +24,10 @@ module _ (m : PredictorMeaning) (b : Before) (rs : List ℤ) (i : ℕ) where
       ∙ ap (λ x. x ∷ values_from m (i + 1) (after b x) (drop (i + 1) rs)) (sym ec)
       ∙ ap (λ x. c ∷ values_from m (i + 1) x (drop (i + 1) rs)) (sym eb)
 
--- one of them before the others, as a test of it reads it
-module _ (s : Scale) (c : ℤ) (cs all : List ℤ) (step : all ≡ c ∷ cs) (fits : SFits w32 c) where
-  pub codes_next : all_codes s all ≡ (is_code s (to_z w32 (of_z w32 c)) && all_codes s cs)
-  unfolding all_codes
-  codes_next = ap (all_codes s) step ∙ ap (λ x. is_code s x && all_codes s cs) (sym (to_z-of_z w32 c fits))
-
-  pub codes_go : true ≡ is_code s (to_z w32 (of_z w32 c)) → all_codes s cs ≡ all_codes s all
-  codes_go h = sym (codes_next ∙ ap (λ x. x && all_codes s cs) (sym h))
-
-  pub codes_astray : false ≡ is_code s (to_z w32 (of_z w32 c)) → all_codes s all ≡ false
-  codes_astray h = codes_next ∙ ap (λ x. x && all_codes s cs) (sym h)
-
-pub codes_past : (s : Scale) (cs : List ℤ) → cs ≡ [] → all_codes s cs ≡ true
+-- one of them before the others, by the answer of a test of it
+pub codes_next : (s : Scale) (c : ℤ) (cs all : List ℤ) → all ≡ c ∷ cs → SFits w32 c → (b : Bool) → b ≡ is_code s (to_z w32 (of_z w32 c)) → all_codes s all ≡ (b && all_codes s cs)
 unfolding all_codes
-codes_past s cs e = ap (all_codes s) e
+codes_next s c cs all step fits b h = ap (all_codes s) step ∙ ap (λ x. x && all_codes s cs) (sym (h ∙ ap (is_code s) (to_z-of_z w32 c fits)))
 
 -- points placed one after another
 module _ {P : Type 0} (k : KindMeaning P) (a : ℕ) (s : Scale) (i : ℕ) (points all : List P) where

@@ -1,18 +1,18 @@
--- How far the reader of a file comes, the faults that a piece can have, and that the first fault is told.
+-- How far the reader of a file comes, what faults a piece can have, and that the first is told.
 use Rattle.std.specs.Prelude.{◌≡◌, ℕ, zero, suc, ◌+◌, ◌≤◌, true, false, ◌⊎◌, List, [], ◌∷◌, ◌++◌, take, drop, ℤ, Ok, Err, Result}
 use Rattle.std.specs.List.{AllByRecursion}
 use Rattle.words.specs.Order.{Order}
-use Rattle.refusal.specs.Numbers.{number_of}
+use Rattle.refusal.specs.Refusals.{number_of}
 use Rattle.refusal.specs.declared.Why.{Why}
 use Rattle.refusal.specs.declared.Refusal.{Refusal}
 use Rattle.predict.specs.Predictor.{PredictorMeaning}
 use Rattle.pack.specs.Packing.{ReadingMeaning}
 use Rattle.range.specs.Scale.{Scale, scale_of}
 use Rattle.panel.specs.Layout.{Rest, rest_at, header_piece, range_piece, length_piece, end_piece}
-use Rattle.panel.specs.Faults.{Fault, piece_faults, header_faults, range_faults, cut_short, body_faults, stray_codes, trailing_faults}
+use Rattle.panel.specs.Judging.{Fault, piece_faults, header_faults, range_faults, cut_short, body_faults, stray_codes, trailing_faults}
 
--- the piece that is due: N; Q, V or a body with so many axes after it, in a panel of n vertices; E; nothing more; or the
--- whole file is read
+-- the piece that is due: N; Q, V or a body with so many axes after it, in a panel of n vertices; E;
+-- nothing more; or the whole file is read
 pub data Due : Type 0 where
   header : Due
   range : (n more : ℕ) → Due
@@ -36,12 +36,19 @@ Has (f ∷ fs) w at = ((f.found ≡ true) × (f.why ≡ w) × (f.place ≡ at)) 
 abbrev pub Sound : List Fault → Type 0
 Sound fs = AllByRecursion (λ f. f.found ≡ false) fs
 
--- for a byte order, a predictor, a packing, a point kind of so many axes and a point list of so much room
+-- one thing holds exactly when another does
+abbrev pub Exactly : Type 0 → Type 0 → Type 0
+Exactly A B = (A → B) × (B → A)
+
+-- for a byte order, a predictor, a packing, a kind of so many axes and a point list of so much room
 module _ (o : Order) (m : PredictorMeaning) (q : ReadingMeaning) (axes room : ℕ) where
   -- the faults of the piece that is due, by what is left of the file from it on
   abbrev pub faults : Due → Rest → List Fault
-  faults header r = piece_faults (header_piece o) r ++ header_faults m q axes room ((header_piece o).says r.bytes) r.at
-  faults (range n more) r = piece_faults (range_piece o) r ++ range_faults ((range_piece o).says r.bytes) r.at
+  faults header r =
+      let says = (header_piece o).says r.bytes in
+      piece_faults (header_piece o) r ++ header_faults m q axes room says r.at
+  faults (range n more) r =
+      piece_faults (range_piece o) r ++ range_faults ((range_piece o).says r.bytes) r.at
   faults (length n more s) r = piece_faults (length_piece o) r
   faults (body n more s bytes) r =
       let list : Result (List ℤ) Why = q.reads o n (take bytes r.bytes) in
@@ -70,7 +77,8 @@ module _ (o : Order) (m : PredictorMeaning) (q : ReadingMeaning) (axes room : �
   after nothing bs = read
   after read bs = read
 
-  -- The reader of a file stands before a piece at a place: it begins before N at 0, and goes on past each sound piece.
+  -- The reader of a file stands before a piece at a place: it begins before N at 0, and goes on
+  -- past each sound piece.
   pub data Stands (file : List ℕ) : Due → ℕ → Type 0 where
     begins : Stands file header 0
     passes : {d : Due} {at : ℕ} → Stands file d at → Sound (faults d (rest_at file at))
@@ -82,19 +90,16 @@ module _ (o : Order) (m : PredictorMeaning) (q : ReadingMeaning) (axes room : �
     pub at : ℕ
     pub stands : Stands file due at
     pub has : Has (faults due (rest_at file at)) e.why e.place
-    pub least : (w : Why) (p : ℕ) → Has (faults due (rest_at file at)) w p → number_of e.why ≤ number_of w
+    pub least : (w : Why) (p : ℕ)
+        → Has (faults due (rest_at file at)) w p → number_of e.why ≤ number_of w
 
   -- The reader comes to the end of the file, with nothing left.
   abbrev pub ReadThrough : List ℕ → Type 0
   ReadThrough file = (at : ℕ) × Stands file read at
 
--- one thing holds exactly when another does
-abbrev pub Exactly : Type 0 → Type 0 → Type 0
-Exactly A B = (A → B) × (B → A)
-
--- What judging answers: a file is refused exactly with its first fault, and accepted exactly where it is read through.
-abbrev pub JudgedByTheFirstFault : {X : Type 0}
-    → Order → PredictorMeaning → ReadingMeaning → ℕ → ℕ → List ℕ → Result X Refusal → Type 0
-JudgedByTheFirstFault {X} o m q axes room file r =
-    ((e : Refusal) → Exactly (r ≡ Err e) (FirstFault o m q axes room file e))
-    × Exactly ((x : X) × (r ≡ Ok x)) (ReadThrough o m q axes room file)
+  -- What judging answers: a file is refused exactly with its first fault, and accepted exactly
+  -- where it is read through.
+  abbrev pub JudgedByTheFirstFault : {X : Type 0} → List ℕ → Result X Refusal → Type 0
+  JudgedByTheFirstFault {X} file r =
+      ((e : Refusal) → Exactly (r ≡ Err e) (FirstFault file e))
+      × Exactly ((x : X) × (r ≡ Ok x)) (ReadThrough file)

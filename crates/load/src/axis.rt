@@ -1,9 +1,9 @@
 // An axis of a panel file: its range and its body.
 ghost use Rattle.std.specs.Prelude.{◌≡◌, IfOk, Ok, length};
-ghost use Rattle.panel.specs.Faults.{unless, range_faults};
+ghost use Rattle.panel.specs.Judging.{unless, range_faults, scale_at, opened};
 ghost use Rattle.range.specs.Scale.{scale_of};
 ghost use Rattle.panel.specs.Judging.{scale_at, opened};
-ghost use Rattle.load.specs.Counted.{opened_by};
+ghost use Rattle.load.specs.Pieces.{told_by, says_axis};
 
 use crate::body::Body;
 use crate::piece::{Due, Piece, Rest};
@@ -26,7 +26,7 @@ impl<'a, O: ByteOrder, Q: Unpacking> Axis<'a, O, Q> {
     // Q, V and a body of so many entries, and what follows them.
     #[tactic(auto, unfolding(panel::specs::Judging::opened))]
     pub fn take(rest: Rest<'a>, n: VertexCount) -> Result<(Axis<'a, O, Q>, Rest<'a>), Refusal>
-        ensures value { opened_by result ≡ opened O.order Q.reading n rest.entry }
+        ensures value { told_by says_axis result ≡ opened O.order Q.reading n rest.entry }
         ensures long { IfOk result (λ x. length x.0.body ≡ n) }
     {
         let (range, rest) = take_range::<O>(rest)?;

@@ -1,7 +1,7 @@
 // A body as the packing reads it, and its codes.
 ghost use Rattle.std.specs.Prelude.{◌≡◌, ◌<◌, IfOk, length, pos, slice_index_or};
 ghost use Rattle.std.specs.Iterator.{YieldsFirst, item_count};
-ghost use Rattle.kinds.specs.Count.{IsVertexCount};
+ghost use Rattle.kinds.specs.Vertex.{IsVertexCount};
 ghost use Rattle.predict.specs.Residues.{values};
 
 use kinds::VertexCount;

@@ -1,8 +1,9 @@
-// Judges a panel file, piece by piece: the first piece with a fault is told, and of its faults the smallest number.
+// Judges a panel file, piece by piece: the first piece with a fault is told, and of its faults the
+// smallest number.
 ghost use Rattle.std.specs.Prelude.{◌≡◌, ◌≤◌, IfOk, length};
 ghost use Rattle.panel.specs.Layout.{header_piece};
 ghost use Rattle.panel.specs.Judging.{head_at, axes_at, end_at, panel_at, nothing_follows, judged};
-ghost use Rattle.load.specs.Counted.{left_of, count_left, count_of};
+ghost use Rattle.load.specs.Pieces.{told_by, left_of, count_of};
 
 use crate::axis::Axis;
 use crate::piece::{Due, Piece, Rest};
@@ -18,7 +19,8 @@ pub fn file<O: ByteOrder, K: PointKind, P: Predictor, Q: Unpacking>(
     file: &[u8],
     room: usize,
 ) -> Result<VertexCount, Refusal>
-    ensures value { result ≡ count_of (judged O.order P.means Q.reading K.kind.axes room file.now) }
+    ensures value { let axes = K.kind.axes in
+        result ≡ count_of (judged O.order P.means Q.reading axes room file.now) }
     ensures room { IfOk result (λ n. n ≤ room) }
     ensures headed { IfOk result (λ n. (header_piece O.order).size ≤ length file.now) }
 {
@@ -34,7 +36,7 @@ pub fn panel<'a, O: ByteOrder, K: PointKind, P: Predictor, Q: Unpacking>(
     room: usize,
 ) -> Result<(VertexCount, Rest<'a>), Refusal>
     ensures value { let axes = K.kind.axes in
-        result ≡ count_left (panel_at O.order P.means Q.reading axes room rest.entry) }
+        result ≡ told_by (λ p. p.count) (panel_at O.order P.means Q.reading axes room rest.entry) }
     ensures room { IfOk result (λ x. x.0 ≤ room) }
     ensures headed { IfOk result (λ x. (header_piece O.order).size ≤ length rest.entry.bytes) }
 {
@@ -84,7 +86,7 @@ fn head<'a, O: ByteOrder, K: PointKind, P: Predictor, Q: Unpacking>(
 }
 
 // Q, V and a body for each axis, in which every code is one of its range: what follows them.
-#[tactic(auto, using(crate::proofs::Walk::walk_refused, crate::proofs::Walk::no_axes))]
+#[tactic(auto, using(crate::proofs::Axes::axes_refused, crate::proofs::Axes::no_axes))]
 fn axes<'a, O: ByteOrder, P: Predictor, Q: Unpacking>(
     rest: Rest<'a>,
     count: usize,

@@ -9,7 +9,7 @@ mod place;
 
 ghost use Rattle.std.specs.Prelude.{◌≡◌, length};
 ghost use Rattle.words.specs.Order.{low_first};
-ghost use Rattle.panel.specs.Placed.{load_of};
+ghost use Rattle.panel.specs.Stored.{load_of};
 ghost use Rattle.load.specs.Reader.{JudgedByTheFirstFault};
 
 use kinds::{PointKind, VertexCount};

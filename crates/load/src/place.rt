@@ -1,12 +1,11 @@
 // Places the vertices of a file that is judged, axis by axis.
-ghost use Rattle.std.specs.Prelude.{◌≡◌, ℕ, ◌≤◌, true, IsOk, List, length, Ok, Result};
-ghost use Rattle.refusal.specs.declared.Refusal.{Refusal};
+ghost use Rattle.std.specs.Prelude.{◌≡◌, ◌≤◌, true, IsOk, length, Ok};
 ghost use Rattle.predict.specs.Residues.{values};
-ghost use Rattle.panel.specs.Faults.{all_codes};
+ghost use Rattle.panel.specs.Judging.{all_codes, axes_at, judged};
 ghost use Rattle.panel.specs.Layout.{header_piece};
 ghost use Rattle.panel.specs.Judging.{axes_at, judged};
-ghost use Rattle.panel.specs.Placed.{filled};
-ghost use Rattle.load.specs.Counted.{count_of};
+ghost use Rattle.panel.specs.Stored.{filled};
+ghost use Rattle.load.specs.Pieces.{count_of};
 ghost use Rattle.load.specs.Filling.{moved, fill_on, fill_by};
 
 use crate::axis::Axis;
@@ -18,9 +17,10 @@ use predict::Predictor;
 use std::array;
 use words::ByteOrder;
 
-// The vertices of a file that is accepted. It stands apart, so that its frame is not held while a file is judged.
+// The vertices of a file that is accepted. It stands apart, so that its frame is not held while a
+// file is judged.
 #[inline(never)]
-#[tactic(auto, using(crate::proofs::Points::axes_accepted))]
+#[tactic(auto, using(crate::proofs::Axes::axes_accepted, crate::proofs::Axes::placed_all))]
 pub fn place<O: ByteOrder, K: PointKind + Copy, P: Predictor, Q: Unpacking>(
     file: &[u8],
     n: VertexCount,
@@ -32,13 +32,13 @@ pub fn place<O: ByteOrder, K: PointKind + Copy, P: Predictor, Q: Unpacking>(
         count_of (judged O.order P.means Q.reading K.kind.axes room file.now) ≡ Ok n }
     ensures { let room = length points.old in
         let panel = judged O.order P.means Q.reading K.kind.axes room file.now in
-        ◌≡◌ {A = Result ℕ Refusal × List K} (Ok n, points.new) (filled K.kind panel points.old) }
+        points.new ≡ (filled K.kind panel points.old).1 }
 {
     place_axes::<O, K, P, Q>(Rest::of(file, HEAD_SIZE), n, points);
 }
 
 // The vertices on each axis, where the axes are accepted.
-#[tactic(auto, using(crate::proofs::Walk::axis_opens, crate::proofs::Walk::no_axes), unfolding(crate::specs::Filling::fill_from))]
+#[tactic(auto, using(crate::proofs::Axes::axis_opens, crate::proofs::Axes::no_axes), unfolding(crate::specs::Filling::fill_from))]
 fn place_axes<O: ByteOrder, K: PointKind + Copy, P: Predictor, Q: Unpacking>(
     rest: Rest<'_>,
     n: VertexCount,

@@ -2,36 +2,37 @@
 use Rattle.std.specs.Prelude.{◌≡◌, ℕ, ◌+◌, ◌*◌, ◌<◌, ◌≤◌, ◌⊎◌, List, length, ℤ, Ok, Result, IfOk, IfErr}
 use Rattle.std.specs.List.{AllByRecursion}
 use Rattle.std.proofs.Common.{lit<}
-use Rattle.kinds.specs.Count.{IsVertexCount}
+use Rattle.kinds.specs.Vertex.{IsVertexCount}
 use Rattle.refusal.specs.declared.Why.{Why}
 use Rattle.refusal.specs.declared.Why.TheVariants.{BodyLength, SpareBits}
 use Rattle.words.specs.Numbers.{Word}
 use Rattle.words.specs.Order.{Order, spelled}
 use Rattle.words.proofs.Spelling.{length_spelled}
-use Rattle.bodies.specs.Plain.{plain_reads}
-use Rattle.bodies.specs.Fields.{fielded_reads, fielded_writes, fielded_size}
-use Rattle.bodies.proofs.Plain.{plain_counts, plain_words, plain_refusals, plain_short, plain_back}
-use Rattle.bodies.proofs.Fielded.{fielded_counts, fielded_words, fielded_refusals, fielded_sized, fielded_short, fielded_back}
+use Rattle.bodies.specs.Bodies.{plain_reads, fielded_reads, fielded_writes, fielded_size}
+use Rattle.bodies.proofs.Bodies.{plain_counts, plain_words, plain_refusals, plain_short, plain_back, fielded_counts, fielded_words, fielded_refusals, fielded_sized, fielded_short, fielded_back}
 
--- A packing as a reader knows it: its number, and what a body means under a byte order where n entries are due. A body that is
--- accepted means n 32-bit numbers, and one that is refused is so for its length or for its spare bits.
+-- A packing as a reader knows it: its number, and what a body means under a byte order where n entries are
+-- due. A body that is accepted means n 32-bit numbers, and one that is refused is so for its length or for
+-- its spare bits.
 pub record ReadingMeaning : Type 0 where
   pub number : ℕ
   pub reads : Order → ℕ → List ℕ → Result (List ℤ) Why
   pub byte : number < 256
   pub counts : (o : Order) (n : ℕ) (body : List ℕ) → IfOk (reads o n body) (λ xs. length xs ≡ n)
   pub words : (o : Order) (n : ℕ) (body : List ℕ) → IfOk (reads o n body) (AllByRecursion Word)
-  pub refusals : (o : Order) (n : ℕ) (body : List ℕ) → IfErr (reads o n body) (λ why. (why ≡ BodyLength) ⊎ (why ≡ SpareBits))
+  pub refusals : (o : Order) (n : ℕ) (body : List ℕ) →
+      IfErr (reads o n body) (λ why. (why ≡ BodyLength) ⊎ (why ≡ SpareBits))
 
--- And as a writer knows it: the body of a list, and how many bytes it takes, which is at most 8 and 4 for each entry. A list of
--- as many entries as a panel has vertices is accepted and means that list.
+-- And as a writer knows it: the body of a list, and how many bytes it takes, which is at most 8 and 4 for
+-- each entry. A list of as many entries as a panel has vertices is accepted and means that list.
 pub record PackingMeaning : Type 0 where
   pub reading : ReadingMeaning
   pub writes : Order → List ℤ → List ℕ
   pub size : List ℤ → ℕ
   pub sized : (o : Order) (xs : List ℤ) → length (writes o xs) ≡ size xs
   pub short : (xs : List ℤ) → AllByRecursion Word xs → size xs ≤ 8 + 4 * length xs
-  pub back : (o : Order) (xs : List ℤ) → IsVertexCount (length xs) → AllByRecursion Word xs → reading.reads o (length xs) (writes o xs) ≡ Ok xs
+  pub back : (o : Order) (xs : List ℤ) → IsVertexCount (length xs) → AllByRecursion Word xs →
+      reading.reads o (length xs) (writes o xs) ≡ Ok xs
 
 -- packing 0
 abbrev pub plain : PackingMeaning

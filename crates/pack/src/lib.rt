@@ -4,11 +4,11 @@
 ghost use Rattle.std.specs.Prelude.{◌≡◌, ℕ, ◌+◌, ◌-◌, ◌*◌, ◌/◌, ◌%◌, ◌^◌, ◌<◌, ◌≤◌, [], ◌∷◌, ◌++◌, map, length, drop, All, Contains, pos, slice_index_or, Ok, IsOk, IfOk, IfErr, ◌≤ℤ◌, refl};
 ghost use Rattle.std.specs.Result.{result_and, result_unwrap_or};
 ghost use Rattle.std.specs.Int.Digits.{number_from_digits, AllBelowBase};
-ghost use Rattle.kinds.specs.Count.{IsVertexCount};
+ghost use Rattle.kinds.specs.Vertex.{IsVertexCount};
 ghost use Rattle.refusal.specs.declared.Why.TheVariants.{BodyLength};
 ghost use Rattle.words.specs.Order.{bytes_of};
 ghost use Rattle.pack.specs.Packing.{ReadingMeaning, PackingMeaning, plain, fielded};
-ghost use Rattle.bodies.specs.Fields.{least, gap, width_of, fields_size, spare, laid, fielded_size};
+ghost use Rattle.bodies.specs.Bodies.{least, gap, width_of, fields_size, spare, laid, fielded_size};
 ghost use Rattle.pack.specs.Laws.{HighFirst, OnlyPacked, Figures};
 
 use kinds::{MOST_VERTICES, VertexCount};
@@ -187,7 +187,7 @@ fn spare_bits(bytes: &[u8], k: usize) -> u8
 }
 
 // The number that at most eight bytes write, the highest first.
-#[tactic(auto, using(crate::proofs::Bits::padded_read))]
+#[tactic(auto, using(crate::proofs::Reading::padded_read))]
 fn number_of(bytes: &[u8]) -> u64
     requires { length bytes.now ≤ 8 }
     ensures { result ≡ number_from_digits 256 bytes.now }
@@ -223,6 +223,7 @@ impl TryFrom<u8> for Width {
 
 impl Width {
     // As many bits as a number takes.
+    #[tactic(auto, using(std::proofs::lemmas::Nat::pow_below))]
     fn of(number: u32) -> Width
         ensures holds { number < 2 ^ result.bits }
         ensures smallest { (w : ℕ) → number < 2 ^ w → result.bits ≤ w }
@@ -363,7 +364,7 @@ impl<'a> Framed<'a> {
 }
 
 // Where a field's bits lie, which bodies are accepted, and figures reckoned by hand.
-#[tactic(auto, using(crate::proofs::Reading::high_first, crate::proofs::Only::only_packed))]
+#[tactic(auto, using(crate::proofs::Reading::high_first, crate::proofs::Reading::only_packed))]
 pub fn fields_high_first()
     ensures bits { HighFirst }
     ensures bodies { OnlyPacked }

@@ -1,10 +1,7 @@
 -- What is known of the panel of an accepted file, and of the refusal of any other.
-use Rattle.std.proofs.Common.{◌≡◌, ℕ, zero, suc, ◌^◌, ◌<◌, ◌≤◌, true, List, [], ◌∷◌, length, ℤ, Ok, Err, Result, leb, sym, refl, ap, ◌∙◌, ap₂, subst, ⊎_elim, arith, lit≤}
-use Rattle.panel.proofs.Names.{Float, nan, inf, fin, binary32, fits, of_bits, lt_z, ◌⊎◌, IfOk, IfErr, AllByRecursion, result_map_both, cond_both, and_parts, not-false, leb-true, ltb-false, le-ltb, Word, Order, Why, Refusal, and_then, refusal_at, IsVertexCount, PredictorMeaning, start, values, length-values, ReadingMeaning, Words, Scale, IsRange, quanta, scale_of, plain, code-nat, quanta-small, Rest, rest_at, past, Layout, header_piece, range_piece, length_piece, end_piece, Axis, Panel, Fault, unless, piece_faults, header_faults, range_faults, cut_short, all_codes, code_faults, trailing_faults, taken, bytes_taken, end_at, nothing_follows, scale_at, body_at, Opened, opened, with_axis, head_at, axis_at, axes_at, panel_at, judged}
-use lib.Ieee.Bits.{of_bits-fits, is_true as holds}
-use Rattle.std.proofs.lemmas.Float.{T_from_true as passes}
+use Rattle.panel.proofs.Names.{◌≡◌, ℕ, zero, suc, ◌^◌, ◌<◌, ◌≤◌, true, List, [], ◌∷◌, length, ℤ, Ok, Err, Result, leb, sym, refl, ap, ◌∙◌, ap₂, subst, ⊎_elim, arith, lit≤, Float, nan, inf, fin, binary32, fits, of_bits, lt_z, ◌⊎◌, IfOk, IfErr, AllByRecursion, result_map_both, cond_both, and_parts, not-false, leb-true, ltb-false, le-ltb, Word, Order, Why, Refusal, and_then, refusal_at, IsVertexCount, PredictorMeaning, start, values, length-values, ReadingMeaning, Words, Scale, IsRange, quanta, scale_of, plain, code-nat, quanta-small, Rest, rest_at, past, Layout, header_piece, range_piece, length_piece, end_piece, Axis, Panel, Fault, unless, piece_faults, header_faults, range_faults, cut_short, all_codes, code_faults, trailing_faults, taken, bytes_taken, end_at, nothing_follows, scale_at, body_at, Opened, opened, with_axis, head_at, axis_at, axes_at, panel_at, judged, of_bits-fits, is_true as holds, T_from_true as passes}
 use Rattle.refusal.specs.declared.Why.TheVariants.{BodyLength, SpareBits}
-use Rattle.refusal.specs.Numbers.{number_of}
+use Rattle.refusal.specs.Refusals.{number_of}
 use Rattle.range.proofs.Units.{plain_good, plain_units, plain_plain}
 use Rattle.panel.proofs.Faults.{NoneFound, is_count, unless_none, then_ok}
 
@@ -72,27 +69,22 @@ taken_holds Q l r f q =
     then_holds (λ y. y.1 ≡ past l.size r) Q (taken l r) f (unless_holds (λ y. y.1 ≡ past l.size r) (piece_faults l r) _ (refl, (refl, tt)) (λ _. refl)) q
 
 module _ (o : Order) (m : PredictorMeaning) (q : ReadingMeaning) where
-  scale_holds : (r : Rest) → Holds (λ y. IsRange y.0) (scale_at o r)
-  scale_holds r = taken_holds (λ y. IsRange y.0) (range_piece o) r _ (λ w _ _. unless_holds (λ y. IsRange y.0) (range_faults w.0 r.at) _ (refl, (refl, (refl, tt))) (is_range w.0 r.at))
-
   read_holds : (n at : ℕ) (left : Rest) (r : Result (List ℤ) Why) → IfOk r (λ xs. length xs ≡ n) → IfErr r (λ why. (why ≡ BodyLength) ⊎ (why ≡ SpareBits)) →
       Holds (λ (y : List ℤ × Rest). length y.0 ≡ n) (result_map_both (λ (list : List ℤ). (list, left)) (λ (why : Why). refusal_at why at) r)
   read_holds n at left (Ok list) counts refusals = counts
   read_holds n at left (Err why) counts refusals = ⊎_elim (λ (h : why ≡ BodyLength). rw h (lit≤ tt)) (λ (h : why ≡ SpareBits). rw h (lit≤ tt)) refusals
-
-  body_holds : (n len : ℕ) (r : Rest) → Holds (λ y. length y.0 ≡ n) (body_at o q n len r)
-  body_holds n len r =
-      then_holds (λ _. Unit {0}) (λ y. length y.0 ≡ n) (bytes_taken len r) _ (unless_holds (λ _. Unit {0}) (cut_short len r) _ (refl, tt) (λ _. tt))
-      (λ b _ _. read_holds n r.at b.1 (q.reads o n b.0) (q.counts o n b.0) (q.refusals o n b.0))
 
   axis_holds : (n : ℕ) (r : Rest) → Holds (λ y. IsAxis n y.0) (axis_at o m q n r)
   unfolding opened
   axis_holds n r =
       let Open : Opened × Rest → Type 0 = λ y. IsRange y.0.scale × (length y.0.stored ≡ n) in
       then_holds Open (λ y. IsAxis n y.0) (opened o q n r) _
-      (then_holds _ Open (scale_at o r) _ (scale_holds r) (λ s _ is.
+      (then_holds (λ y. IsRange y.0) Open (scale_at o r) _
+      (taken_holds (λ y. IsRange y.0) (range_piece o) r _ (λ w _ _. unless_holds (λ y. IsRange y.0) (range_faults w.0 r.at) _ (refl, (refl, (refl, tt))) (is_range w.0 r.at))) (λ s _ is.
       taken_holds Open (length_piece o) s.1 _ (λ v _ _.
-      then_holds _ Open (body_at o q n v.0 v.1) _ (body_holds n v.0 v.1) (λ b _ long. (is, long)))))
+      then_holds (λ y. length y.0 ≡ n) Open (body_at o q n v.0 v.1) _
+      (then_holds (λ _. Unit {0}) (λ y. length y.0 ≡ n) (bytes_taken v.0 v.1) _ (unless_holds (λ _. Unit {0}) (cut_short v.0 v.1) _ (refl, tt) (λ _. tt))
+      (λ b _ _. read_holds n v.1.at b.1 (q.reads o n b.0) (q.counts o n b.0) (q.refusals o n b.0))) (λ b _ long. (is, long)))))
       (λ x _ known. unless_holds (λ y. IsAxis n y.0) (code_faults x.0.scale (values m x.0.stored) x.0.place) _ (refl, tt) (λ none.
       record { scale = known.0; long = length-values m 0 start x.0.stored ∙ known.1; inside = not-false _ none.0 }))
 

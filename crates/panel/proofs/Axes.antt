@@ -1,12 +1,11 @@
 -- The axes of a panel one after another, and the points on each: their codes, what is stored of them, and their pieces.
-use Rattle.std.proofs.Common.{◌≡◌, ℕ, ◌+◌, ◌<◌, ◌≤◌, true, List, ◌++◌, length, get_or, drop, ℤ, sym, ap, ◌∙◌, append_assoc, arith, length-append, Bool, [], ◌∷◌, take, set, append-nil, zero, suc, pos, refl}
-use Rattle.panel.proofs.Names.{flat_map, enumerate_from, list_all, drop_all, get_or-map, drop_more, take_all, take_more_set, length-enumerate_from, get_or-enumerate_from, Order, overwritten, KindMeaning, PredictorMeaning, residues, after, stored, residues_from, PackingMeaning, Scale, in_words, inside, code_in, piece_bytes, end_piece, range_piece, length_piece, axis_bytes, rest_bytes, stored_axis, file_of, Axis, Panel, axis_on, codes_on, inside_on, inside_from, axes_from, true_from_ne_false, true≢false, get_or_default, get_or-take, length-take-le, place_in, panel_of, all_inside}
+use Rattle.panel.proofs.Names.{◌≡◌, ℕ, ◌+◌, ◌<◌, ◌≤◌, true, List, ◌++◌, length, get_or, drop, ℤ, sym, ap, ◌∙◌, append_assoc, arith, length-append, Bool, [], ◌∷◌, take, set, append-nil, zero, suc, pos, refl, flat_map, enumerate_from, list_all, drop_all, get_or-map, drop_more, take_all, take_more_set, length-enumerate_from, get_or-enumerate_from, Order, overwritten, KindMeaning, PredictorMeaning, residues, after, stored, residues_from, PackingMeaning, Scale, in_words, inside, code_in, piece_bytes, end_piece, range_piece, length_piece, axis_bytes, rest_bytes, stored_axis, file_of, Axis, Panel, codes_on, inside_on, inside_from, axes_from, true_from_ne_false, true≢false, get_or_default, get_or-take, length-take-le, place_in, panel_of, all_inside}
 use Rattle.panel.proofs.Overwriting.{over-more}
 use Rattle.panel.proofs.Sound.{range_sized, length_sized, length-axes}
 use Rattle.std.proofs.lemmas.List.Folds.{list_all_at}
 use Rattle.predict.specs.declared.Before.{Before}
 use Rattle.kinds.specs.Vertex.{at, told}
-use Rattle.panel.specs.Placed.{place_at}
+use Rattle.panel.specs.Panel.{place_at}
 
 -- what is left of a list from an item on
 pub drop_is : {X : Type 0} (xs : List X) (i : ℕ) (x : X) → i < length xs → x ≡ get_or xs i x → drop i xs ≡ x ∷ drop (i + 1) xs
@@ -62,9 +61,6 @@ module _ (o : Order) (m : PredictorMeaning) (q : PackingMeaning) where
     unfolding axes_from
     rest_end done = ap (λ l. rest_bytes o m q (axes_from k ps i l)) (drop_all i gs done)
 
-    pub length_end : length gs ≤ i → length left ≡ 1
-    length_end done = ap length (rest_end done)
-
   -- the range at i, and what is stored of its axis
   module _ {P : Type 0} (k : KindMeaning P) (ps : List P) (gs : List Scale) (i : ℕ) (g : Scale) (work : List ℤ) (lt : i < length gs) (is : g ≡ get_or gs i g) (e : work ≡ residues m (codes_on k i g ps)) where
     pub rest_next : left k ps gs i ≡ stored_axis o q g work ++ left k ps gs (i + 1)
@@ -78,12 +74,12 @@ module _ (o : Order) (m : PredictorMeaning) (q : PackingMeaning) where
     length_next = ap length rest_next ∙ length-append (stored_axis o q g work) _ ∙ ap (λ n. n + length (left k ps gs (i + 1))) (length_stored o q g work)
 
     -- it is written, and what is left behind it
-    pub write_next : (f now : List ℕ) (at next : ℕ) → at + length (left k ps gs i) ≤ length f → now ≡ overwritten f at (stored_axis o q g work) → next ≡ at + length (stored_axis o q g work) →
+    pub write_next : (f now : List ℕ) (at next : ℕ) → at + length (left k ps gs i) ≤ length f → now ≡ overwritten f at (stored_axis o q g work) → next ≡ at + 10 + 5 + q.size work →
         overwritten now next (left k ps gs (i + 1)) ≡ overwritten f at (left k ps gs i)
     write_next f now at next room w n =
+        let long = length_stored o q g work in
         ap (λ l. overwritten l next (left k ps gs (i + 1))) w
-        ∙ over-more f at (stored_axis o q g work) (omega (arith, length_stored o q g work, length_next)) next (left k ps gs (i + 1)) n
-        ∙ sym (ap (overwritten f at) rest_next)
+        ∙ over-more f at (stored_axis o q g work) (omega (arith, long, length_next)) next (left k ps gs (i + 1)) (omega (arith, long)) ∙ sym (ap (overwritten f at) rest_next)
 
 module _ {P : Type 0} (k : KindMeaning P) (ps : List P) (gs : List Scale) (j : ℕ) (g : Scale) (lt : j < length gs) where
   counted : get_or (enumerate_from 0 gs) j (0, g) ≡ (j, get_or gs j g)
@@ -93,9 +89,12 @@ module _ {P : Type 0} (k : KindMeaning P) (ps : List P) (gs : List Scale) (j : �
   from_start = omega (arith, length-enumerate_from 0 gs)
 
   -- axis j has the codes of the points by range j
-  pub axis_is : (x : Axis) → get_or (axes_from k ps 0 gs) j x ≡ axis_on k ps j (get_or gs j g)
+  abbrev on : ℕ × Scale → Axis
+  on y = record { scale = y.1; codes = codes_on k y.0 y.1 ps }
+
+  axis_is : (x : Axis) → get_or (axes_from k ps 0 gs) j x ≡ on (j, get_or gs j g)
   unfolding axes_from
-  axis_is x = get_or-map (λ y. axis_on k ps y.0 y.1) (enumerate_from 0 gs) j (0, g) x from_start ∙ ap (λ y. axis_on k ps y.0 y.1) counted
+  axis_is x = get_or-map on (enumerate_from 0 gs) j (0, g) x from_start ∙ ap on counted
 
   -- the points lie in the range of each axis
   pub inside_each : g ≡ get_or gs j g → inside_from k ps 0 gs ≡ true → inside_on k j g ps ≡ true
@@ -129,10 +128,10 @@ module _ {P : Type 0} (k : KindMeaning P) where
     pub place-told : place_at (panel_of k gs ps).axes j i ≡ place_in (get_or gs j g) (code_in (get_or gs j g) (at (told k ps) i j))
     unfolding codes_on
     place-told =
-        let x : Axis = axis_on k ps j g in
+        let x : Axis = record { scale = g; codes = [] } in
         let s : Scale = get_or gs j g in
-        let axis : get_or (panel_of k gs ps).axes j x ≡ axis_on k ps j s =
-        axis_is k ps (take k.axes gs) j g used x ∙ ap (axis_on k ps j) (get_or-take k.axes gs j g on) in
+        let axis : get_or (panel_of k gs ps).axes j x ≡ record { scale = s; codes = codes_on k j s ps } =
+        axis_is k ps (take k.axes gs) j g used x ∙ ap (λ h. record { scale = h; codes = codes_on k j h ps }) (get_or-take k.axes gs j g on) in
         place-on (panel_of k gs ps).axes j i x (omega (arith, length-axes k ps 0 (take k.axes gs), used))
         ∙ ap (λ (y : Axis). place_in y.scale (get_or y.codes i (pos 0))) axis
         ∙ ap (place_in s) (get_or-map (λ p. code_in s (k.coordinate p j)) ps i (point ps i lt) (pos 0) lt ∙ ap (code_in s) (sym tells))

@@ -1,6 +1,5 @@
 -- Steps and faults: what an answer tells that is no refusal.
-use Rattle.std.proofs.Common.{◌≡◌, ℕ, false, not, List, [], ◌∷◌, Ok, Err, Result, sym, refl, ap, ◌∙◌, true≢false, is_ok}
-use Rattle.panel.proofs.Names.{AllByRecursion, cond-false, and_parts, not-false, leb-true, IsVertexCount, is_vertex_count, Refusal, and_then, Fault, unless}
+use Rattle.panel.proofs.Names.{◌≡◌, ℕ, false, not, List, [], ◌∷◌, Ok, Err, Result, sym, refl, ap, ◌∙◌, true≢false, is_ok, AllByRecursion, cond-false, and_parts, not-false, leb-true, IsVertexCount, is_vertex_count, Refusal, and_then, Fault, unless}
 
 -- none of the faults is found
 abbrev pub NoneFound : List Fault → Type 0

@@ -1,9 +1,6 @@
 -- A panel that is written is read back, and so are design points that lie in their ranges.
-use Rattle.std.proofs.Common.{◌≡◌, ℕ, ◌+◌, ◌^◌, ◌<◌, ◌≤◌, List, [], ◌∷◌, ◌++◌, length, take, Ok, not, refl, ap, ◌∙◌, ap₂, append_assoc, arith, length-append, suc, false, ℤ, subst, true, Result, sym}
-use Rattle.panel.proofs.Names.{take_at, drop_at, length-take-le, length-map, le-ltb, eq-eqb, le-leb, and_from, and_parts, Order, word_at, Words, Rest, Layout, Header, piece_bytes, header_piece, range_piece, length_piece, end_piece, axis_bytes, file_of, piece_faults, header_faults, range_faults, cut_short, all_codes, code_faults, taken, bytes_taken, scale_at, body_at, Opened, opened, coded, with_axis, head_at, axis_at, axes_at, panel_at, judged, binary32, of_bits, to_bits, lt_z, ◌==◌, flat_map, AllByRecursion, enumerate_from, result_map_both, Word, Why, refusal_at, and_then, IsVertexCount, PredictorMeaning, start, residues, values, start-words, values-back, residues-words, length-residues, PackingMeaning, Scale, IsRange, scale_from, in_words, good_end, units_of, stays, code-within, Axis, Panel, inside_on, codes_on, axes_from, inside_from, panel_of, length-enumerate_from, KindMeaning, Refusal}
+use Rattle.panel.proofs.Names.{◌≡◌, ℕ, ◌+◌, ◌^◌, ◌<◌, ◌≤◌, List, [], ◌∷◌, ◌++◌, length, take, Ok, not, refl, ap, ◌∙◌, ap₂, append_assoc, arith, length-append, suc, false, ℤ, subst, true, Result, sym, take_at, drop_at, length-take-le, length-map, le-ltb, eq-eqb, le-leb, and_from, and_parts, Order, word_at, Words, Rest, Layout, Header, piece_bytes, header_piece, range_piece, length_piece, end_piece, axis_bytes, file_of, piece_faults, header_faults, range_faults, cut_short, all_codes, code_faults, taken, bytes_taken, scale_at, body_at, Opened, opened, coded, with_axis, head_at, axis_at, axes_at, panel_at, judged, binary32, of_bits, to_bits, lt_z, ◌==◌, flat_map, AllByRecursion, enumerate_from, result_map_both, Word, Why, refusal_at, and_then, IsVertexCount, PredictorMeaning, start, residues, values, start-words, values-back, residues-words, length-residues, PackingMeaning, Scale, IsRange, scale_from, in_words, good_end, units_of, stays, code-within, Axis, Panel, inside_on, codes_on, axes_from, inside_from, panel_of, length-enumerate_from, KindMeaning, Refusal, of_bits-to_bits, to_bits-lt, is_true as holds, T_from_true as passes}
 use Rattle.panel.proofs.Faults.{unless_none, then_ok}
-use lib.Ieee.Bits.{of_bits-to_bits, to_bits-lt, is_true as holds}
-use Rattle.std.proofs.lemmas.Float.{T_from_true as passes}
 use Rattle.panel.proofs.Accepted.{IsAxis, IsPanel, codes_words}
 use Rattle.std.proofs.lemmas.Grind.{common_steps}
 use Rattle.std.proofs.ByRecursion.{All-take}

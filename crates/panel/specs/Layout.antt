@@ -1,4 +1,4 @@
--- How the pieces of a panel file lie in its bytes: one layout to read and to write each of them, and the file of a panel.
+-- How the pieces of a panel file lie in its bytes, one layout to read and to write each of them, and the file of a panel.
 use Rattle.std.specs.Prelude.{ℕ, ◌+◌, List, [], ◌∷◌, ◌++◌, length, drop, ℤ, slice_index}
 use Rattle.std.specs.List.{flat_map}
 use Rattle.words.specs.Order.{Order, word_at}
@@ -46,7 +46,12 @@ module _ (o : Order) where
   header_piece = record {
     letter = 0x4E;
     size = 8;
-    says = λ bs. record { axes = slice_index bs 1; predictor = slice_index bs 2; packing = slice_index bs 3; count = word_at o bs 4 };
+    says = λ bs. record {
+      axes = slice_index bs 1;
+      predictor = slice_index bs 2;
+      packing = slice_index bs 3;
+      count = word_at o bs 4;
+    };
     operands = λ h. h.axes ∷ h.predictor ∷ h.packing ∷ o.writes h.count;
   }
 

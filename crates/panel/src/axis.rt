@@ -1,8 +1,9 @@
 // The pieces of an axis: its range, and the body of what is stored of the points' codes.
 ghost use Rattle.std.specs.Prelude.{◌≡◌, ◌+◌, ◌≤◌, length};
-ghost use Rattle.kinds.specs.Count.{IsVertexCount};
+ghost use Rattle.kinds.specs.Vertex.{IsVertexCount};
 ghost use Rattle.words.specs.Bytes.{overwritten};
 ghost use Rattle.panel.specs.Layout.{stored_axis};
+ghost use Rattle.panel.specs.declared.pieces.TheConstants.{LENGTH_SIZE, RANGE_SIZE};
 
 use crate::pieces::{LENGTH_SIZE, RANGE_SIZE, length_piece, put, range_piece};
 use pack::Packing;
@@ -19,10 +20,10 @@ pub(crate) fn write_axis<O: ByteOrder, Q: Packing>(
     at: usize,
 ) -> usize
     requires counted { IsVertexCount (length entries.now) }
-    requires space { at + length (stored_axis O.order Q.means range.now entries.now) ≤ length file.old }
+    requires space { at + RANGE_SIZE + LENGTH_SIZE + Q.means.size entries.now ≤ length file.old }
     ensures bytes { let axis = stored_axis O.order Q.means range.now entries.now in
         file.new ≡ overwritten file.old at axis }
-    ensures next { result ≡ at + length (stored_axis O.order Q.means range.now entries.now) }
+    ensures next { result ≡ at + RANGE_SIZE + LENGTH_SIZE + Q.means.size entries.now }
 {
     let size = Q::body_length(entries);
     put(file, at, &range_piece::<O>(range));

@@ -1,11 +1,12 @@
 // Design points, and the file that they are stored as.
-ghost use Rattle.std.specs.Prelude.{◌≡◌, ◌≤◌, true, length, Ok};
+ghost use Rattle.std.specs.Prelude.{◌≡◌, ◌≤◌, true, [], ◌∷◌, length, nat_lt, Ok};
 ghost use Rattle.predict.specs.Residues.{residues};
-ghost use Rattle.kinds.specs.Count.{IsVertexCount};
+ghost use Rattle.kinds.specs.Vertex.{IsVertexCount};
 ghost use Rattle.words.specs.Bytes.{overwritten};
 ghost use Rattle.panel.specs.Panel.{codes_on, inside_from, inside_on, panel_on};
-ghost use Rattle.panel.specs.Faults.{unless};
-ghost use Rattle.panel.specs.Stored.{filed, space_faults};
+ghost use Rattle.panel.specs.Judging.{fault, unless};
+ghost use Rattle.refusal.specs.declared.Why.TheVariants.{NoSpace};
+ghost use Rattle.panel.specs.Stored.{filed};
 ghost use Rattle.panel.specs.Layout.{file_of};
 
 use crate::axis::write_axis;
@@ -58,8 +59,8 @@ impl<'a, K: PointKind> Design<'a, K> {
         requires { length work.old ≡ length self.now.points.now }
         ensures { let panel = panel_on K.kind self.now.ranges.now self.now.points.now in
             let bytes = file_of O.order P.means Q.means panel in
-            let faults = space_faults bytes (length file.old) in
-            (result, file.new) ≡ filed (unless faults (Ok bytes)) file.old }
+            let space = fault NoSpace 0 (nat_lt (length file.old) (length bytes)) in
+            (result, file.new) ≡ filed (unless (space ∷ []) (Ok bytes)) file.old }
     {
         let size = self.file_length::<O, P, Q>(work);
         if file.len() < size {
@@ -70,7 +71,7 @@ impl<'a, K: PointKind> Design<'a, K> {
     }
 
     // How many bytes the file takes.
-    #[tactic(auto, using(crate::proofs::Axes::inside_each, crate::proofs::Axes::length_file, crate::proofs::Axes::length_next, crate::proofs::Axes::length_end))]
+    #[tactic(auto, using(crate::proofs::Axes::inside_each, crate::proofs::Axes::length_file, crate::proofs::Axes::length_next, crate::proofs::Axes::rest_end))]
     fn file_length<O: ByteOrder, P: Predictor, Q: Packing>(&self, work: &mut [i32]) -> usize
         requires { length work.old ≡ length self.now.points.now }
         ensures { let panel = panel_on K.kind self.now.ranges.now self.now.points.now in

@@ -8,8 +8,7 @@ use Rattle.std.proofs.lemmas.Int.{unsigned_abs-mul}
 use Rattle.std.specs.Int.{int_div_euclid}
 use borrow.Author.Differences.{ints, up, down}
 use Rattle.range.proofs.Units.{units_small}
-use Rattle.range.specs.Units.{good_end, units_of}
-use Rattle.range.specs.Scale.{Scale, IsCode, IsRange, range_of, refusal, scale_from, unless, is_code, code_in, highest, in_quanta, inside, lowest, nearest_whole, numerator, place_in, quanta, width}
+use Rattle.range.specs.Scale.{good_end, units_of, Scale, IsCode, IsRange, range_of, refusal, scale_from, range_unless, is_code, code_in, highest, in_quanta, inside, lowest, nearest_whole, numerator, place_in, quanta, width}
 use Rattle.range.specs.Laws.{NearestMeans, Between, OnTable, CodeInRange, HalfAQuantum, HalfAStep, PlaceNear, PlacesBounded, CodesRise, PlacesRise, SumsSmall}
 use Rattle.range.specs.declared.ends.TheConstants.{MOST_BITS, FARTHEST_UNITS}
 
@@ -181,6 +180,8 @@ sums_small s b t =
       λ c h. let x = on_table s c t h in omega (arith, ints, x.0, x.1),
     )
 
+pub ruleset laws = (nearest_means, code_in_range, half_a_quantum, half_a_step, places_near, places_bounded, codes_rise, places_rise, sums_small)
+
 -- ---- what the machine works out
 
 pub code_as : (s : Scale) (v : ℤ) (f m d r : ℕ) → inside s v ≡ true → 0 < d → v -ℤ lowest s ≡ pos f → d ≡ width s → m ≡ quanta s
@@ -229,7 +230,7 @@ stays g is =
 
 -- so it is what they make
 pub made : (g : Scale) (is : IsRange g) → range_of g.bits g.lower g.upper ≡ Ok g
-made g is = let k = stays g is in ap₂ unless k.0 k.1
+made g is = let k = stays g is in ap₂ range_unless k.0 k.1
 
 -- coordinates inside a range
 module _ (g : Scale) (is : IsRange g) (v : ℤ) (h : inside g v ≡ true) where

@@ -11,7 +11,7 @@ use borrow.Author.Differences.{ints}
 use Rattle.std.proofs.lemmas.Bool.{cases_eq}
 use Rattle.std.proofs.lemmas.Bool.Decides.{nat_tests}
 use Rattle.std.specs.Float.{float_is_finite}
-use Rattle.range.specs.Units.{InUnits, good_end, signed, units_of, plain}
+use Rattle.range.specs.Scale.{InUnits, good_end, signed, units_of, plain}
 use Rattle.range.specs.Laws.{EndsMean, PlainUnits, WordsStay}
 use Rattle.range.specs.declared.ends.TheConstants.{FARTHEST_UNITS}
 
@@ -214,3 +214,7 @@ words_stay w h g =
     (λ (e : w ≡ 2 ^ 31). rw e refl)
     (λ (n : w ≡ 2 ^ 31 → ⊥). rw (plain_other (of_bits binary32 w) (of_bits-fits binary32 w) (λ e. n (sym stays ∙ ap (to_bits binary32) e)), stays) (other w n))
     (cases_eq w (2 ^ 31))
+
+pub ruleset laws = (ends_mean, plain_units, words_stay)
+
+pub ruleset plains = (plain_good, plain_units, plain_plain)

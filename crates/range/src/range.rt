@@ -2,8 +2,7 @@
 ghost use Rattle.std.specs.Prelude.{◌≡◌, ◌+◌, ◌*◌, ◌^◌, ◌<◌, ◌≤◌, true, pos, ◌-ℤ◌, ◌*ℤ◌, ◌<ℤ◌, if◌then◌else◌, Some, None, IfOk, IfSome, from_bits, unsigned_abs};
 ghost use Rattle.std.specs.Float.{binary32};
 ghost use Rattle.std.specs.Result.{result_err};
-ghost use Rattle.range.specs.Units.{units_of};
-ghost use Rattle.range.specs.Scale.{IsCode, IsRange, code_in, highest, in_words, inside, is_code, lowest, nearest_whole, place_in, quanta, range_of, refusal, said_by, scale_from, width};
+ghost use Rattle.range.specs.Scale.{units_of, IsCode, IsRange, code_in, highest, in_words, inside, is_code, lowest, nearest_whole, place_in, quanta, range_of, refusal, said_by, scale_from, width};
 
 use crate::ends::{
     FARTHEST_UNITS, MOST_BITS, end_units, end_word, is_below, is_end, without_sign_of_zero,
@@ -35,7 +34,7 @@ impl Model for Range {
 
 impl Range {
     // The bits are judged first, then the ends, then their order.
-    #[tactic(auto, using(crate::proofs::Units::plain_good, crate::proofs::Units::plain_units, crate::proofs::Units::plain_plain))]
+    #[tactic(auto, using(crate::proofs::Units::plains))]
     pub fn new(bits: u8, lower: f32, upper: f32) -> Result<Range, Why>
         ensures value { result ≡ range_of bits lower upper }
         ensures refused { refusal bits lower upper ≡ result_err result }

@@ -1,18 +1,18 @@
 -- Numbers behind zeros: what a format's width writes, and the last digits of a number that has no more.
-use Rattle.std.proofs.Common.{◌≡◌, ℕ, zero, suc, ◌+◌, ◌-◌, ◌/◌, ◌%◌, ◌^◌, ◌<◌, ◌≤◌, List, [], ◌∷◌, ◌++◌, length, replicate, refl, sym, ap, ap₂, ◌∙◌, ⊎_elim, arith, false, codes, append-nil, append_assoc, length-append}
-use Rattle.std.proofs.Math.Nat.{div-div-eq-div-mul, pow-succ'}
+use Rattle.std.proofs.Common.{◌≡◌, ℕ, zero, suc, ◌+◌, ◌-◌, ◌/◌, ◌%◌, ◌^◌, ◌<◌, ◌≤◌, List, [], ◌∷◌, ◌++◌, length, replicate, refl, ap, ap₂, ◌∙◌, ⊎_elim, arith, false, codes, append-nil, append_assoc, length-append}
+use Rattle.std.proofs.Math.Nat.{pow-succ'}
 use Rattle.std.proofs.lemmas.Bool.Decides.{leb_tells}
 use Rattle.std.proofs.lemmas.Fmt.{decimal_digit, decimal_step}
 use Rattle.std.proofs.lemmas.List.{replicate_more}
 use Rattle.std.specs.Fmt.{decimal, padded_integral, char_count, format_spec}
 use Rattle.refusal.specs.declared.Refusal.{Refusal}
-use Rattle.refusal.specs.Numbers.{number_of}
+use Rattle.refusal.specs.Refusals.{number_of}
 use Rattle.refusal.specs.Refusals.{refusal_at, padded_decimal, line_of, text_of}
 
 -- the last k decimal digits of n, in ASCII
-abbrev pub digits : ℕ → ℕ → List ℕ
+abbrev digits : ℕ → ℕ → List ℕ
 digits zero n = []
-digits (suc k) n = (48 + n / 10 ^ k % 10) ∷ digits k n
+digits (suc k) n = digits k (n / 10) ++ (48 + n % 10) ∷ []
 
 -- what `{:0k}` writes
 pub width_written : (k n : ℕ) → padded_integral (format_spec 32 0 4 k (2 ^ 64 - 1)) false [] (decimal n) ≡ padded_decimal k n
@@ -20,13 +20,6 @@ unfolding padded_integral char_count
 width_written k n =
     let bare : k - length (decimal n) - 0 - 0 ≡ k - length (decimal n) = omega arith in
     rw bare (simp append-nil)
-
--- the last digit of all, and those before it
-last_digit : (k n : ℕ) → digits (suc k) n ≡ digits k (n / 10) ++ (48 + n % 10) ∷ []
-last_digit zero n = let whole : n / 1 ≡ n = omega arith in rw whole refl
-last_digit (suc k) n =
-    let moved : n / 10 ^ suc k ≡ n / 10 / 10 ^ k = ap (λ m. n / m) (pow-succ' 10 k) ∙ sym (div-div-eq-div-mul n 10 (10 ^ k)) in
-    rw moved (ap (λ xs. (48 + n / 10 / 10 ^ k % 10) ∷ xs) (last_digit k n))
 
 -- a digit behind the others, and one behind zeros alone
 one_more : (k n : ℕ) → 10 ≤ n → n < 2 ^ 64 → padded_decimal (suc k) (n / 10) ++ (48 + n % 10) ∷ [] ≡ padded_decimal (suc (suc k)) n
@@ -46,28 +39,27 @@ only_one k n short =
 
 -- a number of at most k digits
 few_digits : (k n : ℕ) → n < 10 ^ suc k → n < 2 ^ 64 → digits (suc k) n ≡ padded_decimal (suc k) n
-few_digits zero n below fits =
-    let whole : n / 1 ≡ n = omega arith in let low : n % 10 ≡ n = omega arith in
-    rw (decimal_digit n (omega arith), whole, low) refl
+few_digits zero n below fits = let low : n % 10 ≡ n = omega arith in rw (decimal_digit n (omega arith), low) refl
 few_digits (suc k) n below fits =
-    last_digit (suc k) n
-    ∙ ap (λ xs. xs ++ (48 + n % 10) ∷ []) (few_digits k (n / 10) (omega (arith, below, pow-succ' 10 (suc k))) (omega arith))
+    ap (λ xs. xs ++ (48 + n % 10) ∷ []) (few_digits k (n / 10) (omega (arith, below, pow-succ' 10 (suc k))) (omega arith))
     ∙ ⊎_elim (λ long. one_more k n long.1 fits) (λ short. only_one k n short.1) (leb_tells 10 n)
 
 -- the last five digits are those of what is left of a number
-last_five : (n : ℕ) → digits 5 n ≡ padded_decimal 5 (n % 10 ^ 5)
+abbrev five : ℕ → List ℕ
+five n = (48 + n / 10000 % 10) ∷ (48 + n / 1000 % 10) ∷ (48 + n / 100 % 10) ∷ (48 + n / 10 % 10) ∷ (48 + n % 10) ∷ []
+
+last_five : (n : ℕ) → five n ≡ padded_decimal 5 (n % 10 ^ 5)
 last_five n =
-    let a : n % 10 ^ 5 / 10 ^ 4 % 10 ≡ n / 10 ^ 4 % 10 = omega arith in
-    let b : n % 10 ^ 5 / 10 ^ 3 % 10 ≡ n / 10 ^ 3 % 10 = omega arith in
-    let c : n % 10 ^ 5 / 10 ^ 2 % 10 ≡ n / 10 ^ 2 % 10 = omega arith in
-    let d : n % 10 ^ 5 / 10 ^ 1 % 10 ≡ n / 10 ^ 1 % 10 = omega arith in
-    let e : n % 10 ^ 5 / 1 % 10 ≡ n / 1 % 10 = omega arith in
-    let low : n % 10 ^ 5 < 10 ^ 5 = omega arith in
-    rw (← a, ← b, ← c, ← d, ← e) refl ∙ few_digits 4 (n % 10 ^ 5) low (omega (arith, low))
+    let a : n / 10000 % 10 ≡ n % 10 ^ 5 / 10 / 10 / 10 / 10 % 10 = omega arith in
+    let b : n / 1000 % 10 ≡ n % 10 ^ 5 / 10 / 10 / 10 % 10 = omega arith in
+    let c : n / 100 % 10 ≡ n % 10 ^ 5 / 10 / 10 % 10 = omega arith in
+    let d : n / 10 % 10 ≡ n % 10 ^ 5 / 10 % 10 = omega arith in
+    let e : n % 10 ≡ n % 10 ^ 5 % 10 = omega arith in
+    rw (a, b, c, d, e) refl ∙ few_digits 4 (n % 10 ^ 5) (omega arith) (omega arith)
 
 -- the line, digit by digit
 pub by_digits : (e : Refusal) (bs : List ℕ) → number_of e.why < 100
-    → bs ≡ codes "refused " ++ (digits 2 (number_of e.why) ++ (codes " at " ++ (digits 5 e.place ++ codes "\n"))) → bs ≡ line_of e
+    → bs ≡ codes "refused " ++ (digits 2 (number_of e.why) ++ (codes " at " ++ (five e.place ++ codes "\n"))) → bs ≡ line_of e
 by_digits e bs few is =
     let line : List ℕ → List ℕ → List ℕ = λ number place. codes "refused " ++ (number ++ (codes " at " ++ (place ++ codes "\n"))) in
     is ∙ ap₂ line (few_digits 1 (number_of e.why) few (omega (arith, few))) (last_five e.place) ∙ simp append_assoc

@@ -4,8 +4,7 @@
 ghost use Rattle.std.specs.Prelude.{◌≡◌, take, IfOk};
 ghost use Rattle.kinds.specs.Vertex.{told};
 ghost use Rattle.seam.specs.Seam.{split_of};
-ghost use Rattle.seam.specs.Figures.{Figures};
-ghost use Rattle.seam.specs.Laws.{Sound, HeaviestDivides, ToleranceMovesNoVertex, OwnAxesWeigh, NearLiesAlong, WeightsStaySmall};
+ghost use Rattle.seam.specs.Laws.{Figures, Sound, HeaviestDivides, ToleranceMovesNoVertex, OwnAxesWeigh, NearLiesAlong, WeightsStaySmall};
 
 mod chord;
 mod gauge;

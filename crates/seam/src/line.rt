@@ -2,11 +2,9 @@
 ghost use Rattle.std.specs.Prelude.{◌≡◌, ◌+◌, ◌-◌, ◌<◌, ◌≤◌, IfErr, IfOk, length, MatchResult, true, false, ◌&&◌, nat_le, slice_set, unsigned_abs};
 ghost use Rattle.std.specs.List.{All, list_all};
 ghost use Rattle.refusal.specs.declared.Why.TheVariants.{Tolerance as tooLoose, Unfit};
-ghost use Rattle.kinds.specs.Count.{IsVertexCount};
-ghost use Rattle.kinds.specs.Vertex.{at as vertex, told, farthest_steps, close_by, all_close_by};
+ghost use Rattle.kinds.specs.Vertex.{at as vertex, told, farthest_steps, close_by, all_close_by, IsVertexCount};
 ghost use Rattle.seam.specs.Weight.{vertex_at, run_of, weights_from};
-ghost use Rattle.seam.specs.Split.{marked, kept as kept_of, waits as waits_of};
-ghost use Rattle.seam.specs.Seam.{heaviest as heaviest_of, heavier as heavier_of, pick as pick_of, inner, cleared, ends, tree_of};
+ghost use Rattle.seam.specs.Seam.{heaviest as heaviest_of, heavier as heavier_of, pick as pick_of, inner, cleared, ends, tree_of, marked, kept as kept_of, waits as waits_of};
 
 use crate::KEPT;
 use crate::chord::Chord;
@@ -55,7 +53,7 @@ pub(crate) struct Line<'a, K: PointKind> {
 
 impl<'a, K: PointKind> Line<'a, K> {
     // The line of these points, if each lies within the bench.
-    #[tactic(auto, using(crate::proofs::Vertices::all_told))]
+    #[tactic(auto, using(crate::proofs::Weights::all_told))]
     pub(crate) fn new(points: &'a [K]) -> Result<Line<'a, K>, Why>
         requires { IsVertexCount (length points.now) }
         ensures { let near = all_close_by (told K.kind points.now) in
@@ -86,7 +84,7 @@ impl<'a, K: PointKind> Line<'a, K> {
     // The heaviest vertex inside a chord, the first of equals; none where no vertex lies inside. The caller names the
     // chord's major axis and way.
     #[inline(always)]
-    #[tactic(auto, using(crate::proofs::Heavy::heaviest_more), unfolding(crate::specs::Weight::weights_from))]
+    #[tactic(auto, using(crate::proofs::Weights::heaviest_more), unfolding(crate::specs::Weight::weights_from))]
     fn heaviest(&self, gauge: &Gauge, major: Axis, way: Way, chord: Chord) -> Option<Weighed>
         requires major { major ≡ gauge.now.major }
         requires way { way ≡ gauge.now.way }

@@ -15,7 +15,7 @@ pub(crate) struct Place {
 }
 
 impl Place {
-    #[tactic(auto, using(crate::proofs::Vertices::three))]
+    #[tactic(auto, using(crate::proofs::Weights::three))]
     pub(crate) fn of<K: PointKind>(point: &K) -> Place
         requires { close_by (K.kind.coordinate point.now) ≡ true }
         ensures { triple result.x result.y result.z ≡ K.kind.coordinate point.now }
@@ -110,7 +110,7 @@ impl Distance {
     }
 
     // The product of two distances.
-    #[tactic(auto, using(crate::proofs::Sizes::product_back))]
+    #[tactic(auto, using(crate::proofs::Weights::product_back))]
     pub(crate) fn times(self, other: Distance) -> i64
         ensures value { result ≡ self.steps *ℤ other.steps }
         ensures bound { unsigned_abs result ≤ 2 ^ 42 }
@@ -130,7 +130,7 @@ pub(crate) struct Run {
 impl Run {
     ghost use Rattle.seam.specs.Weight.{vertex_at, run_of, on_axis, from_to, m_of, major_of};
 
-    #[tactic(auto, using(crate::proofs::Sizes::back_held, crate::proofs::Vertices::apart))]
+    #[tactic(auto, using(crate::proofs::Weights::back_held, crate::proofs::Weights::apart))]
     pub(crate) fn between(from: Place, to: Place) -> Run
         ensures { run_of result ≡ from_to (vertex_at from) (vertex_at to) }
     {

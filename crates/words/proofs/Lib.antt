@@ -1,3 +1,2 @@
 pub mod Wrapping
 pub mod Spelling
-pub mod Digits

@@ -1,4 +1,3 @@
 pub mod Numbers
 pub mod Order
-pub mod Digits
 pub mod Bytes

@@ -6,14 +6,15 @@ use Rattle.std.specs.Simd.{first_chunks}
 use Rattle.std.proofs.Common.{to_z, of_z, arith}
 use Rattle.std.proofs.lemmas.Nat.{from_le_bytes-to_le_bytes_4, le_bytes_4}
 
--- A byte order writes a number below 2 ^ 32 as four bytes, and reads it again. Any four bytes are read as such a number, and
--- it is written as these.
+-- A byte order writes a number below 2 ^ 32 as four bytes, and reads it again. Any four bytes are read
+-- as such a number, and it is written as these.
 pub record Order : Type 0 where
   pub writes : ℕ → List ℕ
   pub reads : List ℕ → ℕ
   pub four : (n : ℕ) → length (writes n) ≡ 4
   pub back : (n : ℕ) → n < 2 ^ 32 → reads (writes n) ≡ n
-  pub only : (bytes : List ℕ) → length bytes ≡ 4 → ((i : ℕ) → slice_index bytes i < 256) → (reads bytes < 2 ^ 32) × (writes (reads bytes) ≡ bytes)
+  pub only : (bytes : List ℕ) → length bytes ≡ 4 → ((i : ℕ) → slice_index bytes i < 256) →
+      (reads bytes < 2 ^ 32) × (writes (reads bytes) ≡ bytes)
 
 -- the low byte first
 abbrev pub low_first : Order

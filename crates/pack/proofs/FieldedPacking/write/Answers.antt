@@ -2,7 +2,7 @@ use Rattle.std.proofs.Common.{◌≡◌, ℕ, ◌+◌, ◌-◌, List, [], ◌∷
 use Rattle.std.proofs.lemmas.List.{append-nil, take_rest, take_at, drop_at, drop_all, drop-drop}
 use borrow.Rule.Slice.PartMut.{put_mid}
 use Rattle.words.specs.Order.{Order, bytes_of}
-use Rattle.bodies.specs.Fields.{fields_size, least, gap, width_of, laid, packed, fielded_writes, fielded_size}
+use Rattle.bodies.specs.Bodies.{fields_size, least, gap, width_of, laid, packed, fielded_writes, fielded_size}
 use Rattle.pack.proofs.FieldedPacking.write.Goals as goal
 
 -- bytes laid behind a head of five bytes

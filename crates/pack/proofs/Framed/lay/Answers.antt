@@ -1,8 +1,8 @@
-use Rattle.std.proofs.Common.{◌≡◌, ℕ, suc, ◌+◌, ◌-◌, ◌*◌, ◌%◌, ◌^◌, ◌<◌, ◌≤◌, List, [], ◌∷◌, ◌++◌, map, length, take, drop, ℤ, refl, sym, ap, ◌∙◌, subst, ap₂, append_assoc, arith, rules}
+use Rattle.std.proofs.Common.{◌≡◌, ℕ, suc, ◌+◌, ◌-◌, ◌*◌, ◌^◌, ◌<◌, ◌≤◌, List, [], ◌∷◌, ◌++◌, map, length, take, drop, ℤ, refl, sym, ap, ◌∙◌, subst, ap₂, append_assoc, arith, rules}
 use Rattle.std.specs.Option.{MatchOption}
 use Rattle.std.proofs.lemmas.List.{append-nil, length-map, length-set, length-take-le, take_all, take_more_set}
-use Rattle.bodies.specs.Fields.{gap, fields_size}
-use Rattle.bodies.proofs.Fielded.{holds}
+use Rattle.bodies.specs.Bodies.{gap, fields_size}
+use Rattle.bodies.proofs.Bodies.{holds}
 use Rattle.pack.proofs.Laying.{left, left_all, left_byte, left-held, Small, taken, shifted-fits}
 use Rattle.pack.proofs.Framed.lay.Goals as goal
 

@@ -1,5 +1,5 @@
 use Rattle.std.proofs.Common.{ℕ, ◌-◌, ◌≤◌, ◌≡◌, ◌++◌, map, length, take}
-use Rattle.bodies.specs.Fields.{gap, laid}
+use Rattle.bodies.specs.Bodies.{gap, laid}
 use Rattle.pack.proofs.Laying.{left, Small}
 use Rattle.pack.proofs.Framed.lay.Given as goal
 

@@ -1,6 +1,6 @@
 use Rattle.std.proofs.Common.{◌∙◌, w32}
 use Rattle.std.proofs.lemmas.Int.{to_z-of_z}
-use Rattle.pack.proofs.Least.{least_is}
+use Rattle.bodies.proofs.Bodies.{least_is}
 use Rattle.pack.proofs.Framed.of.Goals as goal
 
 pub invariant_of-result-clause-lowest : goal.invariant_of-result-clause-lowest

@@ -1,5 +1,5 @@
 use Rattle.std.proofs.Common.{◌≡◌, ℕ, ◌+◌, ◌-◌, ◌*◌, ◌/◌, ◌%◌, ◌^◌, length, refl, ap, ◌∙◌, arith}
-use Rattle.pack.proofs.Bits.{field-read, eight-from}
+use Rattle.pack.proofs.Reading.{field-read, eight-from}
 use Rattle.pack.proofs.Width.field.Goals as goal
 
 pub returns-in-Some : goal.returns-in-Some

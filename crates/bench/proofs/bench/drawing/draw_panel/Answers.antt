@@ -6,11 +6,3 @@ pub draw-requires-clause-space : goal.draw-requires-clause-space
 unfolding drawn
 draw-requires-clause-space g c =
     (fit_of g.K.PointKind.kind c.args.count c.args.at c.args.points.now c.args.marks.now c.args.program.now c.requires.some c.requires.fit).space
-
-pub returns-clause-end : goal.returns-clause-end
-unfolding drawn
-returns-clause-end g c = c.draw.ensures.end
-
-pub returns-clause-bytes : goal.returns-clause-bytes
-unfolding drawn
-returns-clause-bytes g c = c.draw.ensures.bytes

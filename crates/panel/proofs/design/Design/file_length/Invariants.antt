@@ -1,4 +1,4 @@
-use Rattle.std.proofs.Common.{◌≡◌, ◌+◌, ◌*◌, ◌≤◌, length}
+use Rattle.panel.proofs.Names.{◌≡◌, ◌+◌, ◌*◌, ◌≤◌, length}
 use Rattle.panel.proofs.Axes.{left}
 use Rattle.panel.proofs.design.Design.file_length.Given as goal
 

@@ -1,22 +1,19 @@
-use Rattle.std.proofs.Common.{ap, ◌∙◌, arith, w32}
+use Rattle.panel.proofs.Names.{ap, ◌∙◌, arith, w32, inside, code_in}
 use Rattle.std.proofs.lemmas.Int.{to_z-of_z}
 use borrow.Author.Differences.{ints}
-use Rattle.panel.proofs.Names.{inside, code_in}
 use Rattle.panel.proofs.Axes.{inside_at, fill_step, fill_end}
 use Rattle.panel.proofs.design.Design.fill.Goals as goal
 
 pub code_of-code-requires : goal.code_of-code-requires
 code_of-code-requires g c =
-    let k = g.K.PointKind.kind in
-    let s = c.args.range.now in
+    let k = g.K.PointKind.kind in let s = c.args.range.now in
     let v = to_z-of_z w32 c.coordinate.result (record { sfits = c.coordinate.type_inv }) ∙ c.coordinate.ensures in
     ap (inside s) (v ∙ ap (λ p. k.coordinate p c.args.axis) c.point-item.is)
     ∙ inside_at k c.args.axis s c.args.self.now.points.now c.loop-i.i c.point-item.result c.loop-i-test.true c.requires.inside
 
 pub loop-i-preserved : goal.loop-i-preserved
 loop-i-preserved g c =
-    let k = g.K.PointKind.kind in
-    let s = c.args.range.now in
+    let k = g.K.PointKind.kind in let s = c.args.range.now in
     let l = c.loop-i in
     let v = to_z-of_z w32 c.coordinate.result (record { sfits = c.coordinate.type_inv }) ∙ c.coordinate.ensures in
     let code = to_z-of_z w32 c.code_of-code.result (record { sfits = omega (arith, ints, c.code_of-code.ensures.bound) }) ∙ c.code_of-code.ensures.value in

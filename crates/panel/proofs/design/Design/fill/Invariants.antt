@@ -1,5 +1,4 @@
-use Rattle.std.proofs.Common.{◌≡◌, ◌++◌, take, drop}
-use Rattle.panel.proofs.Names.{residues, residues_from, codes_on}
+use Rattle.panel.proofs.Names.{◌≡◌, ◌++◌, take, drop, residues, residues_from, codes_on}
 use Rattle.panel.proofs.design.Design.fill.Given as goal
 
 -- what is filled, and what is stored of the rest, is what is stored of all

@@ -1,5 +1,4 @@
-use Rattle.std.proofs.Common.{◌≡◌, ◌+◌, length}
-use Rattle.panel.proofs.Names.{overwritten}
+use Rattle.panel.proofs.Names.{◌≡◌, ◌+◌, length, overwritten}
 use Rattle.panel.proofs.Axes.{left}
 use Rattle.panel.proofs.design.Design.write.Given as goal
 

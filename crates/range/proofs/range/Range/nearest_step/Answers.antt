@@ -1,8 +1,7 @@
 use Rattle.std.proofs.Common.{◌≡◌, ◌*◌, ◌≤◌, ℤ, pos, ◌+ℤ◌, ◌*ℤ◌, nat_abs, ap, ◌∙◌, subst, arith, to_z, of_z, w64}
 use borrow.Author.Differences.{ints}
 use Rattle.range.specs.declared.ends.TheConstants.{FARTHEST_UNITS}
-use Rattle.range.specs.Scale.{IsRange, place_in, lowest}
-use Rattle.range.specs.Units.{units_of}
+use Rattle.range.specs.Scale.{IsRange, place_in, lowest, units_of}
 use Rattle.range.proofs.Ranges.{place_as}
 use Rattle.range.proofs.range.Range.nearest_step.Goals as goal
 

@@ -1,9 +1,8 @@
 use Rattle.std.proofs.Common.{◌≡◌, length, refl, arith}
 use Rattle.std.proofs.lemmas.List.{nil_from_length}
-use Rattle.seam.specs.Split.{parts_of}
-use Rattle.seam.specs.Seam.{tree_of}
-use Rattle.seam.proofs.Waiting.{inner, room, counted, pushed, pushed-less, popped, ended}
-use Rattle.seam.proofs.Vertices.{pick-inner}
+use Rattle.seam.specs.Seam.{tree_of, parts_of}
+use Rattle.seam.proofs.Grow.{inner, room, counted, pushed, pushed-less, popped, ended}
+use Rattle.seam.proofs.Weights.{pick-inner}
 use Rattle.seam.proofs.line.Line.split_chords.Goals as goal
 
 pub keep-requires : goal.keep-requires

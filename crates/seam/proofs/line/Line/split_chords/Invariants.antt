@@ -1,7 +1,7 @@
 use Rattle.std.proofs.Common.{◌-◌, length}
 use Rattle.kinds.specs.Vertex.{told}
 use Rattle.seam.specs.Seam.{pick}
-use Rattle.seam.proofs.Waiting.{Going, turns}
+use Rattle.seam.proofs.Grow.{Going, turns}
 use Rattle.seam.proofs.line.Line.split_chords.Given as goal
 
 -- what is done, and what the chord in hand and those that wait still owe

@@ -1,7 +1,7 @@
 use Rattle.std.proofs.Common.{◌≡◌, ◌+◌, ◌≤◌, length, ap, ◌∙◌, arith, to_z-of_z, w32, SFits, rules}
 use Rattle.std.proofs.lemmas.Bool.Decides.{nat_tests}
 use Rattle.words.specs.Order.{low_first, bytes_of}
-use Rattle.bench.proofs.Overwriting.{steps-more}
+use Rattle.bench.proofs.Chains.{steps-more}
 use Rattle.bench.proofs.bench.knife.Knife.write_move.Goals as goal
 
 pub loop-axis-preserved : goal.loop-axis-preserved

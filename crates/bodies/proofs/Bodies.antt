@@ -1,25 +1,45 @@
--- Packing 1 is a packing: what is read are as many numbers of 32 bits as are due, and what is written is read back.
+-- Both are packings: what is read are as many numbers of 32 bits as are due, and what is written is read back.
 use Rattle.std.specs.Prelude.{◌≡◌, ℕ, ◌+◌, ◌*◌, ◌/◌, ◌%◌, ◌^◌, ◌<◌, ◌≤◌, ◌⊎◌, true, ◌&&◌, List, [], ◌∷◌, ◌++◌, map, length, take, drop, ℤ, pos, ◌+ℤ◌, ◌-ℤ◌, ◌≤ℤ◌, fold, ◌==◌, nat_le, slice_index, refl, Ok, Err, Result, IfOk, IfErr}
-use Rattle.std.proofs.Common.{sym, ap, ap₂, subst, ◌∙◌, inl, inr, ⊎_elim, arith, mul-le-mul_left, mod-eq_of_lt, eqb-true, leb-true, lit<, lit≤, of_z, length-append}
+use Rattle.std.proofs.Common.{suc, sym, ap, ap₂, subst, ◌∙◌, inl, inr, arith, mul-le-mul_left, mod-eq_of_lt, eqb-true, leb-true, lit<, lit≤, of_z, length-append}
 use Rattle.std.proofs.Math.Nat.{mul-mod_left}
 use borrow.Author.Differences.{abs_is}
 use Rattle.std.specs.Int.{int_min, int_wrap, w32}
-use Rattle.std.specs.List.{AllByRecursion}
+use Rattle.std.specs.List.{All, AllByRecursion, Contains}
 use Rattle.std.specs.Int.Digits.{digits_of, number_from_digits, AllBelowBase}
-use Rattle.std.proofs.ByRecursion.{all-has, folded_min_z_bounds, folded_min_z_reached}
+use Rattle.std.proofs.ByRecursion.{folded_min_z_bounds}
+use Rattle.std.proofs.lemmas.List.Elements.{All-contains, All-from_recursion, recursion_from_All}
 use Rattle.std.proofs.lemmas.List.{length-map}
 use Rattle.std.proofs.lemmas.Bool.{le-leb, eq-eqb, and_from, and_parts, cond-true, cond_both}
-use Rattle.std.proofs.lemmas.Nat.{shl-shr, shl_below}
-use Rattle.std.proofs.lemmas.Int.{ints, int_wrap_fits, SFits-int_wrap}
+use Rattle.std.proofs.lemmas.Nat.{pow_pos, shl-shr, shl_below}
+use Rattle.std.proofs.lemmas.Int.{ints, fold-int_min_reached, int_wrap_fits, SFits-int_wrap}
 use Rattle.std.proofs.lemmas.Int.Digits.{number_digits_of, number_lt, all_below_base_digits_of, length-digits_of-le}
 use Rattle.refusal.specs.declared.Why.{Why}
 use Rattle.refusal.specs.declared.Why.TheVariants.{BodyLength, SpareBits}
-use Rattle.words.specs.Numbers.{Word, ◌⊞◌}
-use Rattle.words.specs.Order.{Order, bytes_of, number_of}
-use Rattle.words.specs.Digits.{digits}
-use Rattle.words.proofs.Spelling.{number_back}
-use Rattle.words.proofs.Digits.{pow_pow, length_digits, digits_number, number_digits}
-use Rattle.bodies.specs.Fields.{fields_size, spare, fields, entries, fielded_reads, least, gap, greatest, width_of, laid, fielded_writes, fielded_size}
+use Rattle.words.specs.Numbers.{Word}
+use Rattle.words.specs.Order.{Order, bytes_of, number_of, spelled}
+use Rattle.words.proofs.Spelling.{number_back, length_numbers, all_numbers, length_spelled, numbers_back}
+use Rattle.bodies.proofs.Digits.{pow_pow, length_digits, digits_number, number_digits}
+use Rattle.bodies.specs.Bodies.{plain_reads, digits, fields_size, spare, fields, entries, fielded_reads, least, gap, greatest, width_of, laid, fielded_writes, fielded_size}
+
+-- ---- packing 0
+
+pub plain_short : (xs : List ℤ) → AllByRecursion Word xs → 4 * length xs ≤ 8 + 4 * length xs
+plain_short xs words = omega arith
+
+module _ (o : Order) where
+  pub plain_counts : (n : ℕ) (body : List ℕ) → IfOk (plain_reads o n body) (λ xs. length xs ≡ n)
+  plain_counts n body =
+      cond_both (length body == 4 * n) _ _ (λ r. IfOk r (λ xs. length xs ≡ n)) (λ _. length_numbers o n body) (λ _. tt)
+
+  pub plain_words : (n : ℕ) (body : List ℕ) → IfOk (plain_reads o n body) (AllByRecursion Word)
+  plain_words n body = cond_both (length body == 4 * n) _ _ (λ r. IfOk r (AllByRecursion Word)) (λ _. all_numbers o n body) (λ _. tt)
+
+  pub plain_refusals : (n : ℕ) (body : List ℕ) → IfErr (plain_reads o n body) (λ why. (why ≡ BodyLength) ⊎ (why ≡ SpareBits))
+  plain_refusals n body =
+      cond_both (length body == 4 * n) _ _ (λ r. IfErr r (λ why. (why ≡ BodyLength) ⊎ (why ≡ SpareBits))) (λ _. tt) (λ _. inl refl)
+
+  pub plain_back : (xs : List ℤ) → AllByRecursion Word xs → plain_reads o (length xs) (spelled o xs) ≡ Ok xs
+  plain_back xs words = cond-true _ _ _ (eq-eqb _ _ (length_spelled o xs)) ∙ ap Ok (numbers_back o xs words)
 
 -- ---- the fields in their bytes
 
@@ -92,20 +112,16 @@ read-packed o (a ∷ b ∷ c ∷ d ∷ []) w fs four narrow small =
 
 -- ---- the base and the width
 
-gap-back : (b x : ℤ) → Word x → b ≤ℤ x → b ⊞ pos (gap b x) ≡ x
-gap-back b x w h = let whole : b +ℤ pos (gap b x) ≡ x = omega (arith, ints, abs_is (x -ℤ b)) in ap (int_wrap w32) whole ∙ int_wrap_fits w32 x w
-
-gaps-back : (b : ℤ) (xs : List ℤ) → AllByRecursion Word xs → AllByRecursion (λ x. b ≤ℤ x) xs → entries b (map (gap b) xs) ≡ xs
-gaps-back b [] words low = refl
-gaps-back b (x ∷ xs) words low =
-    ap₂ (λ (y : ℤ) (ys : List ℤ). y ∷ ys) (gap-back b x words.0 low.0) (gaps-back b xs words.1 low.1)
-
-gap-small : (b x : ℤ) → Word b → Word x → b ≤ℤ x → gap b x < 2 ^ 32
-gap-small b x v w h = omega (arith, ints, abs_is (x -ℤ b))
-
-gaps-small : (b : ℤ) (xs : List ℤ) → Word b → AllByRecursion Word xs → AllByRecursion (λ x. b ≤ℤ x) xs → greatest (map (gap b) xs) < 2 ^ 32
-gaps-small b [] v words low = lit< tt
-gaps-small b (x ∷ xs) v words low = omega (arith, gap-small b x v words.0 low.0, gaps-small b xs v words.1 low.1)
+-- from a base that none is below, the fields give the entries again, and have 32 bits
+gaps : (b : ℤ) (xs : List ℤ) → Word b → AllByRecursion Word xs → AllByRecursion (λ x. b ≤ℤ x) xs →
+    (entries b (map (gap b) xs) ≡ xs) × (greatest (map (gap b) xs) < 2 ^ 32)
+gaps b [] v words low = (refl, lit< tt)
+gaps b (x ∷ xs) v words low =
+    let whole : b +ℤ pos (gap b x) ≡ x = omega (arith, ints, abs_is (x -ℤ b), low.0) in
+    let rest = gaps b xs v words.1 low.1 in (
+      ap₂ (λ (y : ℤ) (ys : List ℤ). y ∷ ys) (ap (int_wrap w32) whole ∙ int_wrap_fits w32 x words.0) rest.0,
+      omega (arith, ints, abs_is (x -ℤ b), low.0, words.0, rest.1),
+    )
 
 under-greatest : (fs : List ℕ) (m : ℕ) → greatest fs < m → AllBelowBase m fs
 under-greatest [] m h = tt
@@ -122,13 +138,19 @@ pub least_low : (xs : List ℤ) → AllByRecursion (λ x. least xs ≤ℤ x) xs
 least_low [] = tt
 least_low (x ∷ xs) = folded_min_z_bounds x xs (fold int_min x xs) refl
 
+least-in : (xs : List ℤ) → 0 < length xs → Contains xs (least xs)
+least-in [] h = absurd (omega arith)
+least-in (x ∷ xs) h = elim (fold-int_min_reached x xs (fold int_min x xs) refl) [
+  | inl e ↦ (0, omega arith, sym e)
+  | inr k ↦ (suc k.0, omega (arith, k.1), k.2)
+]
+
 least-word : (xs : List ℤ) → AllByRecursion Word xs → Word (least xs)
 least-word [] words = record { sfits = lit< tt }
-least-word (x ∷ xs) words =
-    ⊎_elim (λ e. subst Word (sym e) words.0) (λ has. all-has Word xs _ words.1 has) (folded_min_z_reached x xs (fold int_min x xs) refl)
+least-word (x ∷ xs) words = All-contains Word (x ∷ xs) _ (All-from_recursion Word (x ∷ xs) words) (least-in (x ∷ xs) (omega arith))
 
 narrow : (xs : List ℤ) → AllByRecursion Word xs → width_of (map (gap (least xs)) xs) ≤ 32
-narrow xs words = length-digits_of-le 2 32 _ (lit≤ tt) (gaps-small (least xs) xs (least-word xs words) words (least_low xs))
+narrow xs words = length-digits_of-le 2 32 _ (lit≤ tt) (gaps (least xs) xs (least-word xs words) words (least_low xs)).1
 
 -- ---- a body written
 
@@ -149,4 +171,27 @@ fielded_back o xs words =
     let fs = map (gap b) xs in
     ap (λ (n : ℕ). fielded_reads o n (fielded_writes o xs)) (sym (length-map xs (gap b)))
     ∙ read-packed o (bytes_of o b) (width_of fs) fs (o.four (of_z w32 b)) (narrow xs words) (holds fs)
-    ∙ ap Ok (ap (λ (z : ℤ). entries z fs) (number_back o b (least-word xs words)) ∙ gaps-back b xs words (least_low xs))
+    ∙ ap Ok (ap (λ (z : ℤ). entries z fs) (number_back o b (least-word xs words)) ∙ (gaps b xs (least-word xs words) words (least_low xs)).0)
+
+-- ---- the least and the greatest, as the code finds them
+
+greatest-under : (fs : List ℕ) (m : ℕ) → 0 < m → AllBelowBase m fs → greatest fs < m
+greatest-under [] m h all = h
+greatest-under (f ∷ fs) m h all = let rest = greatest-under fs m h all.1 in let here = all.0 in omega arith
+
+pub width-least : (fs : List ℕ) (v : ℕ) → AllBelowBase (2 ^ v) fs → width_of fs ≤ v
+width-least fs v all = length-digits_of-le 2 v (greatest fs) (lit≤ tt) (greatest-under fs (2 ^ v) (pow_pos v) all)
+
+-- the least is the one entry that none is below
+pub least_is : (xs : List ℤ) (m : ℤ) → All (λ x. m ≤ℤ x) xs → Contains xs m → m ≡ least xs
+least_is xs m low has =
+    let under = All-contains (λ x. m ≤ℤ x) xs (least xs) low (least-in xs (omega (arith, has.1))) in
+    let over = All-contains (λ x. least xs ≤ℤ x) xs m (All-from_recursion _ xs (least_low xs)) has in
+    omega (arith, ints)
+
+-- the width of the greatest of some fields
+pub width_by : (fs : List ℕ) (most w : ℕ) → All (λ f. f ≤ most) fs → Contains fs most → most < 2 ^ w → ((v : ℕ) → most < 2 ^ v → w ≤ v) → w ≡ width_of fs
+width_by fs most w bound has under smallest =
+    let up : w ≤ width_of fs = smallest (width_of fs) (All-contains (λ f. f < 2 ^ width_of fs) fs most (All-from_recursion _ fs (holds fs)) has) in
+    let down : width_of fs ≤ w = width-least fs w (recursion_from_All (λ f. f < 2 ^ w) fs (λ i d l. let b = bound i d l in omega arith)) in
+    omega arith
