@@ -2,7 +2,7 @@
 use Rattle.std.proofs.Common.{◌≡◌, ℕ, List, [], ◌∷◌, take, IfOk, Ok, Err, Option, Result, sym, refl, ap, ◌∙◌, subst}
 use Rattle.refusal.specs.declared.Refusal.{Refusal}
 use Rattle.kinds.specs.Kind.{KindMeaning}
-use Rattle.law.specs.Calls.{Load, Call, load, split, cut, close, Desk, lists_of, State, Report, Done, fresh, close_on, load_on, split_on, cut_on, effect, Vertices, Counts, Length, run, accepted, step}
+use Rattle.law.specs.Calls.{Splitting, Load, Call, load, split, cut, close, Desk, lists_of, State, Report, Done, fresh, close_on, load_on, split_on, cut_on, effect, Vertices, Counts, Length, run, accepted, step}
 use Rattle.law.specs.Law.{MisplacesNone, NoRunMisplacesAPanel}
 
 abbrev done_of : {X L : Type 0} → Result X Refusal → Desk → L → Done X L
@@ -12,7 +12,7 @@ done_of answer bench list = record { answer = answer; bench = bench; list = list
 pub joined : {X L : Type 0} (done : Done X L) (r : Result X Refusal) (d : Desk) (list : L) → r ≡ done.answer → d ≡ done.bench → list ≡ done.list → done ≡ done_of r d list
 joined done r d list a b c = rw (a, b, c) refl
 
-module _ {P : Type 0} (k : KindMeaning P) (x : Load) (t : Option ℕ) (ps : List P) (ms bs : List ℕ) where
+module _ {P : Type 0} (k : KindMeaning P) (x : Load) (t : Splitting) (ps : List P) (ms bs : List ℕ) where
   abbrev at : Desk → List P → List ℕ → List ℕ → State P
   at d points marks program = record { desk = d; lists = lists_of points marks program }
 

@@ -1,9 +1,9 @@
 -- A panel on a bench, and what a caller sees of its calls, up to the first that is refused.
-use Rattle.std.specs.Prelude.{ℕ, Option, List, [], ◌∷◌, IfSome, is_ok, if◌then◌else◌}
+use Rattle.std.specs.Prelude.{ℕ, List, [], ◌∷◌, IfSome, is_ok, if◌then◌else◌}
 use Rattle.kinds.specs.Vertex.{IsVertexCount}
 use Rattle.kinds.specs.Kind.{KindMeaning}
 use Rattle.law.specs.declared.Stage.{Stage}
-use Rattle.law.specs.Calls.{Load, Call, load, split, cut, close, Lists, State, new, Answer, Effect, panel_count, step}
+use Rattle.law.specs.Calls.{Load, Splitting, Call, load, split, cut, close, Lists, State, new, Answer, Effect, panel_count, step}
 
 -- where there is a panel, it has from 2 to 4,096 vertices
 abbrev pub HasVertices : Stage → Type 0
@@ -29,5 +29,5 @@ module _ {P : Type 0} (k : KindMeaning P) where
       if is_ok (step k s c).answer then until_refused (step k s c).after d ds else seen_of (step k s c)
 
   -- a panel's four calls on a new bench
-  unfoldable pub one_panel : Load → Option ℕ → Lists P → Seen Answer P
+  unfoldable pub one_panel : Load → Splitting → Lists P → Seen Answer P
   one_panel l t lists = until_refused (new lists) (load l) (split t ∷ cut ∷ close ∷ [])

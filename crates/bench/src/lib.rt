@@ -2,7 +2,7 @@
 #![tactic(auto)]
 
 ghost use Rattle.std.specs.Prelude.{◌≡◌, ◌≤◌, [], ◌∷◌, length, take, IfOk};
-ghost use Rattle.law.specs.Calls.{load_of, load as Load, split as Split, cut as Cut, close as Close, lists_of, report_as, Length};
+ghost use Rattle.law.specs.Calls.{splitting, load_of, load as Load, split as Split, cut as Cut, close as Close, lists_of, report_as, Length};
 ghost use Rattle.law.specs.Law.{MisplacesNone, NoRunMisplacesAPanel};
 ghost use Rattle.bench.specs.Panels.{seen, one_panel};
 
@@ -27,10 +27,10 @@ pub fn cut_panel<K: PointKind + Copy, P: Predictor, Q: Unpacking>(
     program: &mut [u8],
 ) -> Result<usize, Refusal>
     ensures seen { let load = load_of P.means Q.reading file.now in
-        one_panel K.kind load tolerance (lists_of points.old marks.old program.old)
+        one_panel K.kind load (splitting tolerance) (lists_of points.old marks.old program.old)
         ≡ seen (report_as Length result) (lists_of points.new marks.new program.new) }
     ensures placed { let load = Load (load_of P.means Q.reading file.now) in
-        let calls = load ∷ Split tolerance ∷ Cut ∷ Close ∷ [] in
+        let calls = load ∷ Split (splitting tolerance) ∷ Cut ∷ Close ∷ [] in
         IfOk result (λ n. MisplacesNone K.kind calls (take n program.new)) }
     ensures within { IfOk result (λ n. n ≤ length program.new) }
     ensures never { NoRunMisplacesAPanel K.kind }

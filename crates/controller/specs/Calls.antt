@@ -8,7 +8,7 @@ use Rattle.range.specs.declared.words.Words.{Words}
 use Rattle.pairing.specs.declared.Pairing.{Pairing}
 use Rattle.pairing.specs.Pairings.{predictor_of, packing_of, pairing_named, both}
 use Rattle.panel.specs.Stored.{store_of, Outcome}
-use Rattle.law.specs.Calls.{Answer, Lists, load_of}
+use Rattle.law.specs.Calls.{splitting, Answer, Lists, load_of}
 use Rattle.bench.specs.Panels.{Seen, seen, one_panel}
 
 -- the tolerance that a number stands for: 2^32 - 1 stands for none
@@ -25,7 +25,7 @@ module _ {P : Type 0} (k : KindMeaning P) where
   abbrev pub cut_under : Result Pairing Why → ℕ → List ℕ → Lists P → Seen Answer P
   cut_under (Ok pairing) t file lists =
       let load = load_of (predictor_of pairing.predictor) (packing_of pairing.packing).reading file in
-      one_panel k load (tolerance_given t) lists
+      one_panel k load (splitting (tolerance_given t)) lists
   cut_under (Err why) t file lists = seen (refuse why 0) lists
 
   -- under the pairing that two numbers name

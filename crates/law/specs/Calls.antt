@@ -32,10 +32,17 @@ load_of m q file = record { predictor = m; packing = q; file = file }
 abbrev pub meaning_of : Load → ℕ → ℕ → Result Panel Refusal
 meaning_of l axes room = judged low_first l.predictor l.packing axes room l.file
 
--- a call with its own arguments; a split has a tolerance or none
+-- what a split is given: a tolerance in steps, or none
+pub record Splitting : Type 0 where
+  pub tolerance : Option ℕ
+
+abbrev pub splitting : Option ℕ → Splitting
+splitting t = record { tolerance = t }
+
+-- a call with its own arguments
 pub data Call : Type 0 where
   load : Load → Call
-  split : Option ℕ → Call
+  split : Splitting → Call
   cut : Call
   close : Call
 
@@ -114,8 +121,8 @@ close_on d program = settled d program (
     else refuse NoSpace 0))
 
 -- a split's tolerance: 8 steps if none is given
-abbrev pub tolerance : Option ℕ → ℕ
-tolerance t = unwrap_or t 8
+abbrev pub tolerance : Splitting → ℕ
+tolerance x = unwrap_or x.tolerance 8
 
 -- the points whose mark is 1
 abbrev pub kept_of : {X : Type 0} → List ℕ → List X → List X
@@ -132,7 +139,7 @@ module _ {P : Type 0} (k : KindMeaning P) where
       Ok (x.count, record d { stage = Loaded x.count }, placed k x ++ drop x.count points))))
 
   -- split: the marks that the rule gives; how many vertices are kept, and how many chords waited at most
-  abbrev pub split_on : Option ℕ → Desk → List P → List ℕ → Done (ℕ × ℕ) (List ℕ)
+  abbrev pub split_on : Splitting → Desk → List P → List ℕ → Done (ℕ × ℕ) (List ℕ)
   split_on t d points marks = settled d marks (
       and_then (admitted d.stage event.Split) (λ count.
       let n : ℕ = unwrap_or count 0 in

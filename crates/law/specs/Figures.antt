@@ -9,7 +9,7 @@ use Rattle.predict.specs.Laws as predict
 use Rattle.pack.specs.Packing.{plain, fielded}
 use Rattle.pack.specs.Laws as pack
 use Rattle.seam.specs.Laws as seam
-use Rattle.law.specs.Calls.{Load, load_of, Call, load, split, cut, close, State, lists_of, new, run, accepted}
+use Rattle.law.specs.Calls.{Load, load_of, splitting, Call, load, split, cut, close, State, lists_of, new, run, accepted}
 use Rattle.law.specs.Law.{Stored}
 
 -- a number below 65,536 in four bytes, the lowest first
@@ -36,8 +36,8 @@ hook = load_of lag1 fielded.reading
 -- a cut with no panel, a tolerance of 257 and a cut after the close are refused
 abbrev calls : List Call
 calls =
-    cut ∷ load straight ∷ split None ∷ cut
-    ∷ split (Some 257) ∷ load hook ∷ split None ∷ cut ∷ close
+    cut ∷ load straight ∷ split (splitting None) ∷ cut
+    ∷ split (splitting (Some 257)) ∷ load hook ∷ split (splitting None) ∷ cut ∷ close
     ∷ cut ∷ []
 
 -- a flat point
@@ -64,7 +64,7 @@ pub record Run : Type 0 where
   pub written : let s = run flat bench calls in take s.desk.length s.lists.program ≡ program
   pub marks : (run flat bench calls).lists.marks ≡ 1 ∷ 0 ∷ 1 ∷ 1 ∷ 1 ∷ 9 ∷ []
   pub went : accepted flat bench calls ≡
-      load straight ∷ split None ∷ cut ∷ load hook ∷ split None ∷ cut ∷ close ∷ []
+      load straight ∷ split (splitting None) ∷ cut ∷ load hook ∷ split (splitting None) ∷ cut ∷ close ∷ []
   pub ranges : List Scale
   pub first : Stored flat straight ranges (point 0 0 ∷ point 4096 2000 ∷ [])
   pub second : Stored flat hook ranges

@@ -3,7 +3,7 @@
 
 ghost use Rattle.std.specs.Prelude.{◌≡◌, length};
 ghost use Rattle.panel.specs.Stored.{store_of};
-ghost use Rattle.law.specs.Calls.{load_of, lists_of, report_as, Length};
+ghost use Rattle.law.specs.Calls.{splitting, load_of, lists_of, report_as, Length};
 ghost use Rattle.bench.specs.Panels.{one_panel};
 
 use bench::cut_panel;
@@ -56,7 +56,7 @@ impl<K: PointKind + Copy> Task for Cut<'_, K> {
         (new.marks.ghost_name ≡ old.marks.ghost_name) ×
         (new.program.ghost_name ≡ old.program.ghost_name) ×
         (let lists = lists_of old.points.now old.marks.now old.program.now in
-        let cut = one_panel K.kind (load_of p q.reading old.file.now) old.tolerance lists in
+        let cut = one_panel K.kind (load_of p q.reading old.file.now) (splitting old.tolerance) lists in
         (report_as Length said ≡ cut.answer) ×
         (lists_of new.points.now new.marks.now new.program.now ≡ cut.lists)) };
 
