@@ -16,8 +16,8 @@ pub mod bench;
 
 pub use bench::Bench;
 
-// Cuts one panel file on a new bench: load, split, cut and close. The first refusal ends it. This call carries
-// the law to the programs that make it.
+// Cuts one panel file on a new bench: load, split, cut and close. The first refusal ends it, and what the calls before
+// it wrote stays. This call carries the law to its callers.
 #[tactic(auto, unfolding(crate::specs::Panels::one_panel))]
 pub fn cut_panel<K: PointKind + Copy, P: Predictor, Q: Unpacking>(
     file: &[u8],

@@ -67,7 +67,7 @@ fn given(tolerance: u32) -> Option<u32>
     (tolerance != NONE_GIVEN).then_some(tolerance)
 }
 
-// Splits the first `count` points and writes their marks.
+// Splits the first `count` points and writes their marks. Here no number stands for no tolerance.
 pub fn split<K: PointKind>(points: &[K], count: usize, tolerance: u32, marks: &mut [u8]) -> Answer
     ensures answer { let split = split_of K.kind tolerance count points.now marks.old in
         result ≡ split_answer split.0 }
@@ -77,7 +77,7 @@ pub fn split<K: PointKind>(points: &[K], count: usize, tolerance: u32, marks: &m
     seam::split(points, count, tolerance, marks).into()
 }
 
-// Stores design points at the front of `file`. A kind of two axes uses the first two ranges.
+// Stores design points at the front of `file`. All three words must be ranges; a kind of two axes uses the first two.
 pub fn store<K: PointKind>(
     design: &[K],
     predictor: u8,

@@ -60,7 +60,8 @@ abbrev pub scale_on : List Scale → ℕ → Scale
 scale_on gs j = slice_index_or gs j (record { bits = 0; lower = nan; upper = nan })
 
 -- v is off the stroke from A to B, on each axis, by at most half a quantum, half a step and the tolerance
--- together: with one k in 0..m, 2 M |m (v - 16 A) - 16 k d| ≤ m (D + 16 M + 32 M t)
+-- together (a step is 16 units, D the width of the axis in units, M its quanta): with one k in 0..m,
+-- 2 M |m (v - 16 A) - 16 k d| ≤ m (D + 16 M + 32 M t)
 pub record Beside (axes t : ℕ) (gs : List Scale) (v : Vertex) (A B : List ℤ) : Type 0 where
   pub along : ℕ
   pub short : along ≤ m_of_stroke A B
@@ -138,7 +139,8 @@ module _ {P : Type 0} (k : KindMeaning P) where
     pub alone : Reads k.axes program chains (closes calls)
     pub drawn : Each WellDrawn (cuts calls) chains
 
-  -- Whatever the calls are given, refused ones among them, and whatever the lists hold at first.
+  -- Whatever the calls are given, refused ones among them, and whatever the lists hold at first. All calls work
+  -- on the same lists, and nothing else writes to them.
   abbrev pub NoRunMisplacesAPanel : Type 0
   NoRunMisplacesAPanel =
       (lists : Lists P) (calls : List Call) →

@@ -1,5 +1,5 @@
 -- How far the reader of a file comes, what faults a piece can have, and that the first is told.
-use Rattle.std.specs.Prelude.{◌≡◌, ℕ, zero, suc, ◌+◌, ◌≤◌, true, false, ◌⊎◌, List, [], ◌∷◌, ◌++◌, take, drop, ℤ, Ok, Err, Result}
+use Rattle.std.specs.Prelude.{◌≡◌, ◌↔◌, ℕ, zero, suc, ◌+◌, ◌≤◌, true, false, ◌⊎◌, List, [], ◌∷◌, ◌++◌, take, drop, ℤ, Ok, Err, Result}
 use Rattle.std.specs.List.{AllByRecursion}
 use Rattle.words.specs.Order.{Order}
 use Rattle.refusal.specs.Refusals.{number_of}
@@ -35,10 +35,6 @@ Has (f ∷ fs) w at = ((f.found ≡ true) × (f.why ≡ w) × (f.place ≡ at)) 
 -- none of these faults is found
 abbrev pub Sound : List Fault → Type 0
 Sound fs = AllByRecursion (λ f. f.found ≡ false) fs
-
--- one thing holds exactly when another does
-abbrev pub Exactly : Type 0 → Type 0 → Type 0
-Exactly A B = (A → B) × (B → A)
 
 -- for a byte order, a predictor, a packing, a kind of so many axes and a point list of so much room
 module _ (o : Order) (m : PredictorMeaning) (q : ReadingMeaning) (axes room : ℕ) where
@@ -101,5 +97,5 @@ module _ (o : Order) (m : PredictorMeaning) (q : ReadingMeaning) (axes room : �
   -- where it is read through.
   abbrev pub JudgedByTheFirstFault : {X : Type 0} → List ℕ → Result X Refusal → Type 0
   JudgedByTheFirstFault {X} file r =
-      ((e : Refusal) → Exactly (r ≡ Err e) (FirstFault file e))
-      × Exactly ((x : X) × (r ≡ Ok x)) (ReadThrough file)
+      ((e : Refusal) → ((r ≡ Err e) ↔ FirstFault file e))
+      × (((x : X) × (r ≡ Ok x)) ↔ ReadThrough file)

@@ -3,19 +3,17 @@
 use Rattle.std.specs.Prelude.{ℕ, Bool, false, not, ◌&&◌, cond, List, [], ◌∷◌, length, ℤ, Ok, Err, Result, ◌==◌, from_bits, int_lt, nat_le, nat_lt, slice_index, Float, zero, suc, take}
 use Rattle.std.specs.Float.{binary32}
 use Rattle.std.specs.List.{list_all}
-use Rattle.refusal.specs.Refusals.{number_of}
 use Rattle.refusal.specs.declared.Why.{Why}
 use Rattle.refusal.specs.declared.Why.TheVariants.{Truncated, Letter, AxisCount, PredictorByte, PackingByte, VertexCount, ShortList, Bits, End, Order as Reversed, BodyLength, SpareBits, Code, Trailing}
 use Rattle.refusal.specs.declared.Refusal.{Refusal}
-use Rattle.refusal.specs.Refusals.{refuse, and_then, refusal_at}
+use Rattle.refusal.specs.Refusals.{number_of, refuse, and_then, refusal_at}
 use Rattle.kinds.specs.Vertex.{is_vertex_count}
 use Rattle.predict.specs.Predictor.{PredictorMeaning}
 use Rattle.predict.specs.Residues.{values}
 use Rattle.pack.specs.Packing.{ReadingMeaning}
 use Rattle.range.specs.declared.ends.TheConstants.{MOST_BITS}
 use Rattle.range.specs.declared.words.Words.{Words}
-use Rattle.range.specs.Scale.{good_end, units_of}
-use Rattle.range.specs.Scale.{Scale, is_code, scale_of}
+use Rattle.range.specs.Scale.{Scale, good_end, units_of, is_code, scale_of}
 use Rattle.panel.specs.Layout.{Rest, Layout, Header, rest_at, past, header_piece, range_piece, length_piece, end_piece}
 use Rattle.std.specs.Result.{result_map_both}
 use Rattle.words.specs.Order.{Order}

@@ -19,7 +19,7 @@ use words::LowFirst;
 
 // Stores design points: writes their file to the front of `file`, and answers its length. The ranges are those of the
 // kind's axes, the first ones; the work list needs room for as many entries as there are points. A refusal leaves `file`
-// as it is; it has no piece to point at.
+// as it is; it has no piece to point at. The work list is scratch: what it holds afterwards is not said.
 pub fn store<K: PointKind, P: Predictor, Q: Packing>(
     design: &[K],
     ranges: &[Range; 3],
