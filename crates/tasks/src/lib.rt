@@ -56,7 +56,8 @@ impl<K: PointKind + Copy> Task for Cut<'_, K> {
         (new.marks.ghost_name ≡ old.marks.ghost_name) ×
         (new.program.ghost_name ≡ old.program.ghost_name) ×
         (let lists = lists_of old.points.now old.marks.now old.program.now in
-        let cut = one_panel K.kind (load_of p q.reading old.file.now) (splitting old.tolerance) lists in
+        let load = load_of p q.reading old.file.now in
+        let cut = one_panel K.kind load (splitting old.tolerance) lists in
         (report_as Length said ≡ cut.answer) ×
         (lists_of new.points.now new.marks.now new.program.now ≡ cut.lists)) };
 
