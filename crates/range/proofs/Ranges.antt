@@ -1,15 +1,20 @@
 -- The laws of codes and places, and what other crates need of a range.
-use Rattle.std.proofs.Common.{◌≡◌, ℕ, zero, suc, ◌+◌, ◌*◌, ◌/◌, ◌^◌, ◌<◌, ◌≤◌, true, ◌&&◌, T, leb, Ok, None, ap₂, le→leb, ℤ, pos, negsuc, neg_ℤ, ◌+ℤ◌, ◌-ℤ◌, ◌*ℤ◌, nat_abs, ◌≤ℤ◌, refl, ap, ◌∙◌, mul-le-mul_right, mul-le-mul, lt_of_mul-lt-mul_right, arith, pow_mono}
+use Rattle.std.proofs.Common.{◌≡◌, ℕ, zero, suc, ◌+◌, ◌*◌, ◌/◌, ◌^◌, ◌<◌, ◌≤◌, true, ◌&&◌, T, leb, Bool, false, cond, Ok, Some, None, IfOk, ap₂, le→leb, leb→le, ℤ, pos, negsuc, neg_ℤ, ◌+ℤ◌, ◌-ℤ◌, ◌*ℤ◌, nat_abs, ◌≤ℤ◌, ◌<ℤ◌, refl, sym, subst, ap, ◌∙◌, mul-le-mul_right, mul-le-mul, lt_of_mul-lt-mul_right, arith, pow_mono}
+use lib.IntN.{+ℤ_one, suc_ℤ-*ℤ}
 use lib.Signed.{le_z, lt_z}
-use lib.Ieee.Bits.{is_true as holds}
+use lib.Ieee.{Float, nan, inf, fin, binary32, of_bits, fits}
+use lib.Ieee.Bits.{is_true as holds, of_bits-fits}
 use lib.Ieee.Fits.{and_l, and_r, and_i}
 use Rattle.std.proofs.lemmas.Float.{T_from_true as passes}
 use Rattle.std.proofs.lemmas.Int.{unsigned_abs-mul}
 use Rattle.std.specs.Int.{int_div_euclid}
 use borrow.Author.Differences.{ints, up, down}
-use Rattle.range.proofs.Units.{units_small}
-use Rattle.range.specs.Scale.{good_end, units_of, Scale, IsCode, IsRange, range_of, refusal, scale_from, range_unless, is_code, code_in, highest, in_quanta, inside, lowest, nearest_whole, numerator, place_in, quanta, width}
-use Rattle.range.specs.Laws.{NearestMeans, Between, OnTable, CodeInRange, HalfAQuantum, HalfAStep, PlaceNear, PlacesBounded, CodesRise, PlacesRise, SumsSmall}
+use Rattle.range.proofs.Units.{units_small, plain_good, plain_units, plain_plain}
+use Rattle.refusal.specs.declared.Why.{Why}
+use Rattle.refusal.specs.declared.Why.TheVariants.{Bits, End as BadEnd, Order}
+use Rattle.range.specs.declared.words.Words.{Words}
+use Rattle.range.specs.Scale.{good_end, units_of, plain, Scale, IsCode, IsRange, range_of, range_in, refusal, scale_from, scale_of, range_unless, is_code, code_in, highest, in_quanta, inside, lowest, nearest_whole, numerator, place_in, quanta, width}
+use Rattle.range.specs.Laws.{FloorMeans, NearestMeans, Between, OnTable, CodeInRange, HalfAQuantum, HalfAStep, PlaceNear, PlacesBounded, CodesRise, PlacesRise, SumsSmall}
 use Rattle.range.specs.declared.ends.TheConstants.{MOST_BITS, FARTHEST_UNITS}
 
 -- ---- the whole number nearest to n / (2 h)
@@ -17,6 +22,14 @@ use Rattle.range.specs.declared.ends.TheConstants.{MOST_BITS, FARTHEST_UNITS}
 floor : (a : ℤ) (d : ℕ) → 0 < d → let q = int_div_euclid a (pos d) in (up q * d + down a ≤ down q * d + up a) × (down q * d + up a < up q * d + down a + d)
 floor (pos a) d p = omega arith
 floor (negsuc a) d p = omega arith
+
+pub floor_means : FloorMeans
+floor_means z d p =
+    let q : ℤ = int_div_euclid z (pos d) in
+    let f = floor z d p in
+    let below : z <ℤ ((q *ℤ pos d) +ℤ pos d) = omega (arith, ints) in
+    let next : (q +ℤ pos 1) *ℤ pos d ≡ (q *ℤ pos d) +ℤ pos d = ap (λ (x : ℤ). x *ℤ pos d) (+ℤ_one q) ∙ suc_ℤ-*ℤ q (pos d) in
+    (omega (arith, ints), subst (λ (x : ℤ). z <ℤ x) (sym next) below)
 
 pub nearest_means : NearestMeans
 nearest_means n h p = let f = floor (n +ℤ pos h) (2 * h) (omega arith) in (omega (arith, ints), omega (arith, ints))
@@ -241,3 +254,32 @@ module _ (g : Scale) (is : IsRange g) (v : ℤ) (h : inside g v ≡ true) where
   -- 2 M |v - 16 p| ≤ D + 16 M, for the place p of its code
   pub place-near : 2 * quanta g * nat_abs (v -ℤ pos 16 *ℤ place_in g (code_in g v)) ≤ width g + 16 * quanta g
   place-near = places_near g v is.wide.0 (is.ordered, h)
+
+-- ---- what words say is a range where there is one
+
+plain_fits : (x : Float) → fits binary32 x ≡ true → fits binary32 (plain x) ≡ true
+unfolding plain fits
+plain_fits nan f = f
+plain_fits (inf s) f = f
+plain_fits (fin s zero e) f = refl
+plain_fits (fin s (suc m) e) f = f
+
+by_tests : (a b c : Bool) (x y z : Why) (s : Scale) (P : Scale → Type 0) → (a ≡ true → b ≡ true → c ≡ true → P s)
+    → IfOk (range_unless (cond a (cond b (cond c None (Some x)) (Some y)) (Some z)) s) P
+by_tests true true true x y z s P f = f refl refl refl
+by_tests true true false x y z s P f = tt
+by_tests true false c x y z s P f = tt
+by_tests false b c x y z s P f = tt
+
+pub words_sound : (w : Words) → IfOk (range_in w) IsRange
+words_sound w =
+    let x = of_bits binary32 w.lower in
+    let y = of_bits binary32 w.upper in
+    by_tests (leb 1 w.bits && leb w.bits MOST_BITS) (good_end x && good_end y) (lt_z (units_of x) (units_of y)) Order BadEnd Bits (scale_of w) IsRange
+    (λ b g o. record {
+      wide = (leb→le 1 w.bits (and_l (leb 1 w.bits) (leb w.bits MOST_BITS) (passes _ b)), leb→le w.bits MOST_BITS (and_r (leb 1 w.bits) (leb w.bits MOST_BITS) (passes _ b)));
+      low = (plain_good x ∙ holds (good_end x) (and_l (good_end x) (good_end y) (passes _ g)), plain_plain x);
+      high = (plain_good y ∙ holds (good_end y) (and_r (good_end x) (good_end y) (passes _ g)), plain_plain y);
+      ordered = rw (plain_units x, plain_units y) (record { lt = passes _ o });
+      held = (plain_fits x (holds _ (of_bits-fits binary32 w.lower)), plain_fits y (holds _ (of_bits-fits binary32 w.upper)));
+    })

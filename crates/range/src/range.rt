@@ -176,7 +176,9 @@ impl TryFrom<Words> for Range {
         (result ≡ range_of bits lower upper)
         × (refusal bits lower upper ≡ result_err result)
         × IfOk result IsRange
-        × IfOk result (λ s. s ≡ scale_from bits lower upper) };
+        × IfOk result (λ s. s ≡ scale_from bits lower upper)
+        × IfOk result (λ s. lowest s ≡ units_of lower)
+        × IfOk result (λ s. highest s ≡ units_of upper) };
 
     fn try_from(words: Words) -> Result<Range, Why> {
         Range::new(
