@@ -10,6 +10,12 @@ cd "$(dirname "$0")/.."
 made=target/harness
 sh tools/static_library.sh
 mkdir -p "$made"
+# a controller may have no C library: nothing but memset is needed from outside
+outside=$(nm -u target/staticlib/libcontroller.a | awk '$1 == "U" { print $2 }' | sort -u | tr '\n' ' ')
+if [ "$outside" != "memset " ]; then
+    echo "libcontroller.a needs from outside: $outside"
+    exit 1
+fi
 gcc -std=c99 -Wall -Wextra -Werror -pedantic -I crates/controller harness/controller.c -o "$made/controller" \
     -L target/staticlib -lcontroller
 "$made/controller"

@@ -187,14 +187,15 @@ fn spare_bits(bytes: &[u8], k: usize) -> u8
 }
 
 // The number that at most eight bytes write, the highest first.
-#[tactic(auto, using(crate::proofs::Reading::padded_read))]
 fn number_of(bytes: &[u8]) -> u64
     requires { length bytes.now ≤ 8 }
     ensures { result ≡ number_from_digits 256 bytes.now }
 {
-    let mut eight = [0; 8];
-    eight[8 - bytes.len()..].copy_from_slice(bytes);
-    u64::from_be_bytes(eight)
+    let mut number: u64 = 0;
+    for byte in bytes {
+        number = 256 * number + u64::from(*byte);
+    }
+    number
 }
 
 // The width of a field: how many bits it has.
