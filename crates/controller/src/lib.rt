@@ -98,6 +98,7 @@ pub fn store<K: PointKind>(
 }
 
 // The file's length. A number that names nothing is refused before a range.
+#[tactic(auto, using(crate::proofs::Sound::ranges_sound))]
 fn stored<K: PointKind>(
     design: &[K],
     predictor: u8,
@@ -114,9 +115,8 @@ fn stored<K: PointKind>(
         file.new ≡ stored.1 }
     ensures ranges { IfOk (ranges_in words) (AllByRecursion IsRange) }
 {
-    let ranges = ranges_of(words);
     let pairing = Pairing::new(predictor, packing)?;
-    let ranges = ranges?;
+    let ranges = ranges_of(words)?;
     pairing.run(&mut Store {
         design,
         ranges: &ranges,
