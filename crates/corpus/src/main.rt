@@ -45,12 +45,14 @@ fn main(rt: HostRuntime) -> anyhow::Result<()> {
             break;
         }
         let length = r.byte()?;
-        let name = std::str::from_utf8(r.bytes(usize::from(length))?)?;
-        let got = found(&mut r).context(format_args!("in the case {name}"))?;
+        let name = r.bytes(usize::from(length))?;
+        let shown = std::str::from_utf8(name).unwrap_or("whose name is no text");
+        let got = found(&mut r).context(format_args!("in the case {shown}"))?;
         let expected = r.block()?;
         cases = cases.saturating_add(1);
         if got.as_slice() != expected {
             differ = differ.saturating_add(1);
+            let name = std::str::from_utf8(name)?;
             println!(rt; "differs: {name}")?;
         }
     }

@@ -5,7 +5,7 @@ use anyhow::anyhow;
 use kinds::{Flat, Mould, PointKind};
 use pairing::Pairing;
 use range::range::Range;
-use refusal::Refusal;
+use refusal::{Refusal, Why};
 use std::alloc::Global;
 use tasks::{Cut, Store};
 
@@ -16,15 +16,16 @@ impl<K: PointKind + Copy + Clone + Default + Drop> Kind for K {}
 
 // A sort of record whose points are of the kind that it names.
 pub trait Record {
-    // What the library gives for the rest of the record.
-    fn answer<K: Kind>(r: &mut Reader) -> anyhow::Result<Vec<u8>>;
+    // What the library gives for the rest of the record, under a pairing.
+    fn answer<K: Kind>(pairing: Pairing, r: &mut Reader) -> anyhow::Result<Vec<u8>>;
 }
 
-// What the library gives for a record of a sort, which names the kind of its points by their axes.
+// What the library gives for a record of a sort. Its head names the kind of its points, by their axes, and the pairing.
 pub fn answer<R: Record>(r: &mut Reader) -> anyhow::Result<Vec<u8>> {
-    match r.byte()? {
-        2 => R::answer::<Flat>(r),
-        3 => R::answer::<Mould>(r),
+    let [axes, predictor, packing] = r.take::<3>()?;
+    match axes {
+        2 => R::answer::<Flat>(pairing(predictor, packing)?, r),
+        3 => R::answer::<Mould>(pairing(predictor, packing)?, r),
         _ => Err(anyhow!("no kind has so many axes")),
     }
 }
@@ -33,8 +34,7 @@ pub fn answer<R: Record>(r: &mut Reader) -> anyhow::Result<Vec<u8>> {
 pub struct CutRecord;
 
 impl Record for CutRecord {
-    fn answer<K: Kind>(r: &mut Reader) -> anyhow::Result<Vec<u8>> {
-        let pairing = pairing(r)?;
+    fn answer<K: Kind>(pairing: Pairing, r: &mut Reader) -> anyhow::Result<Vec<u8>> {
         let mut points = r.list(K::default())?;
         let mut marks = r.list(0u8)?;
         let mut program = r.list(0u8)?;
@@ -55,8 +55,7 @@ impl Record for CutRecord {
 pub struct StoreRecord;
 
 impl Record for StoreRecord {
-    fn answer<K: Kind>(r: &mut Reader) -> anyhow::Result<Vec<u8>> {
-        let pairing = pairing(r)?;
+    fn answer<K: Kind>(pairing: Pairing, r: &mut Reader) -> anyhow::Result<Vec<u8>> {
         let ranges = [sound_range(r)?, sound_range(r)?, sound_range(r)?];
         let mut work = r.list(0i32)?;
         let mut file = r.list(0u8)?;
@@ -73,9 +72,11 @@ impl Record for StoreRecord {
 }
 
 // The predictor and the packing of a record.
-fn pairing(r: &mut Reader) -> anyhow::Result<Pairing> {
-    let [predictor, packing] = r.take::<2>()?;
-    Pairing::new(predictor, packing).map_err(|_| anyhow!("there is no such pairing"))
+fn pairing(predictor: u8, packing: u8) -> anyhow::Result<Pairing> {
+    Pairing::new(predictor, packing).map_err(|why| match why {
+        Why::PredictorByte => anyhow!("there is no such predictor"),
+        _ => anyhow!("there is no such packing"),
+    })
 }
 
 // A range of a record, which is always sound.
