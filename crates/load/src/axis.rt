@@ -22,7 +22,9 @@ pub struct Axis<'a, O: ByteOrder, Q: Unpacking> {
 }
 
 impl<'a, O: ByteOrder, Q: Unpacking> Axis<'a, O, Q> {
-    // Q, V and a body of so many entries, and what follows them.
+    // Q, V and a body of so many entries, and what follows them. Inlined: handed back in memory, an
+    // axis costs more than a short body.
+    #[inline(always)]
     #[tactic(auto, unfolding(panel::specs::Judging::opened))]
     pub fn take(rest: Rest<'a>, n: VertexCount) -> Result<(Axis<'a, O, Q>, Rest<'a>), Refusal>
         ensures value { told_by says_axis result ≡ opened O.order Q.reading n rest.entry }
